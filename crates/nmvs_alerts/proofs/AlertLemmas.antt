@@ -1,7 +1,7 @@
 -- The flagged alerts of a trail that grows, and their cases after one more line.
 use Rattle.std.proofs.Common.{◌≡◌, ◌≤◌, ◌+◌, ◌++◌, ◌∷◌, ◌∙◌, [], ℕ, List, Bool, true, false, Option, Some, None, length, map, take, ap, sym, refl, arith, append_assoc, append-nil}
-use Rattle.std.specs.Prelude.{◌&&◌, cond}
-use Rattle.std.specs.List.{slice_get}
+use Rattle.std.specs.Prelude.{◌&&◌, ◌==◌, cond, filter, string_bytes}
+use Rattle.std.specs.List.{flat_map, list_any, slice_get}
 use Rattle.std.specs.Option.{option_map_or, option_and_then}
 use Rattle.std.proofs.lemmas.List.{length-append, map-append, take-append-le, take_all, length-take-le}
 use Rattle.std.proofs.lemmas.Option.{slice_get_past}
@@ -18,10 +18,14 @@ use Rattle.nmvs_rules.specs.Facts.{pack_fact}
 use Rattle.nmvs_rules.specs.Questions.{pack_of}
 use Rattle.nmvs_rules.specs.Trail.{accepts, is_about, is_accepted, known, marked_by}
 use Rattle.nmvs_rules.proofs.PushLemmas.{known-push}
+use Rattle.nmvs_cases.specs.declared.author.Author.{Author}
 use Rattle.nmvs_cases.specs.declared.case.Case.{Case}
 use Rattle.nmvs_cases.specs.declared.line.CaseLine.{CaseLine}
+use Rattle.nmvs_cases.specs.Cases.{has}
 use Rattle.nmvs_alerts.specs.declared.flagged.Flagged.{Flagged}
-use Rattle.nmvs_alerts.specs.Alerts.{acted, after_line, after_lines, alert_of, flagged_of, raised, raised_as, raised_by, raised_from, stands_as, with_case, ArePast}
+use Rattle.nmvs_alerts.specs.declared.investigation.KeptLine.{KeptLine}
+use Rattle.nmvs_alerts.specs.Alerts.{acted, after_line, after_lines, alert_of, flagged_of, is_meant, is_shown, kept_text, lines_in, lines_of, places_about, raised, raised_as, raised_by, raised_from, shown_line, stands_as, with_case, ArePast, ArePlaced, ShownLine}
+use Rattle.nmvs_alerts.specs.Viewing.{sees_act}
 
 -- the flagged alert that the entry behind others is, if it is one
 abbrev pub last_raised : List Entry → Entry → List Flagged
@@ -165,3 +169,79 @@ last-is t u e d place k is last there known-is =
 
     known-as : (d ≡ e) → k ≡ pack_fact (t ++ e ∷ []) (pack_of e.put.question)
     known-as same = known-is ∙ (λ i. pack_fact (is i) (pack_of (same i).put.question))
+
+-- a case names no alert: the lines are about the same alerts, whatever their cases
+meant-as : (t : List Entry) (l : CaseLine) (f : Flagged) (s : Case) → is_meant t l (record f { case = s }) ≡ is_meant t l f
+meant-as t l f s = by (slice_get t f.place)
+  where
+    stands : (e : Entry) (r : Reply)
+        → option_map_or (λ a. has l.range a.name.code a.name.number a.hint) (stands_as t (record f { case = s }) e r) false
+        ≡ option_map_or (λ a. has l.range a.name.code a.name.number a.hint) (stands_as t f e r) false
+    stands e (Alert c flagged n) = refl
+    stands e _ = refl
+
+    by : (o : Option Entry)
+        → option_map_or (λ a. has l.range a.name.code a.name.number a.hint) (option_and_then (λ e. stands_as t (record f { case = s }) e e.reply) o) false
+        ≡ option_map_or (λ a. has l.range a.name.code a.name.number a.hint) (option_and_then (λ e. stands_as t f e e.reply) o) false
+    by None = refl
+    by (Some e) = stands e e.reply
+
+meant-after : (t : List Entry) (l : CaseLine) (f : Flagged) (ls : List CaseLine) → is_meant t l (after_lines t f ls) ≡ is_meant t l f
+unfolding after_lines
+meant-after t l f [] = refl
+meant-after t l f (x ∷ ls) = meant-after t l (with_case t x f) ls ∙ meant-as t l f (after_line t f x)
+
+place-after : (t : List Entry) (f : Flagged) (ls : List CaseLine) → (after_lines t f ls).place ≡ f.place
+unfolding after_lines
+place-after t f [] = refl
+place-after t f (x ∷ ls) = place-after t (with_case t x f) ls
+
+pub places-after : (t : List Entry) (l : CaseLine) (ls : List CaseLine) (fs : List Flagged)
+    → map (λ f. f.place) (filter (is_meant t l) (map (λ f. after_lines t f ls) fs)) ≡ map (λ f. f.place) (filter (is_meant t l) fs)
+places-after t l ls [] = refl
+places-after t l ls (f ∷ fs) =
+    (λ i. map (λ (f : Flagged). f.place) (cond (meant-after t l f ls i) (after_lines t f ls ∷ filter (is_meant t l) (map (λ f. after_lines t f ls) fs)) (filter (is_meant t l) (map (λ f. after_lines t f ls) fs))))
+    ∙ first t l ls f fs (is_meant t l f) (places-after t l ls fs)
+  where
+    first : (t : List Entry) (l : CaseLine) (ls : List CaseLine) (f : Flagged) (fs : List Flagged) (b : Bool)
+        → map (λ (f : Flagged). f.place) (filter (is_meant t l) (map (λ f. after_lines t f ls) fs)) ≡ map (λ (f : Flagged). f.place) (filter (is_meant t l) fs)
+        → map (λ (f : Flagged). f.place) (cond b (after_lines t f ls ∷ filter (is_meant t l) (map (λ f. after_lines t f ls) fs)) (filter (is_meant t l) (map (λ f. after_lines t f ls) fs)))
+        ≡ map (λ (f : Flagged). f.place) (cond b (f ∷ filter (is_meant t l) fs) (filter (is_meant t l) fs))
+    first t l ls f fs true same = λ i. place-after t f ls i ∷ same i
+    first t l ls f fs false same = same
+
+-- the places of the alerts that a line is about, over the trail as it is
+pub places-now : (t : List Entry) (ls : List CaseLine) (l : CaseLine) → l.at ≡ length t
+    → map (λ f. f.place) (filter (is_meant t l) (flagged_of t ls)) ≡ places_about t l
+places-now t ls l now =
+    places-after t l ls (raised t)
+    ∙ ap (λ (u : List Entry). map (λ (f : Flagged). f.place) (filter (is_meant u l) (raised u))) (sym (take_all l.at t (omega (arith, now))))
+
+-- and over a longer one
+pub placed-push : (t : List Entry) (e : Entry) (ks : List KeptLine) → ArePast t (lines_of (lines_in ks)) → ArePlaced t ks → ArePlaced (t ++ e ∷ []) ks
+placed-push t e [] past placed = tt
+placed-push t e (k ∷ ks) past placed = (
+  placed.0 ∙ ap (λ (u : List Entry). map (λ (f : Flagged). f.place) (filter (is_meant u k.line) (raised u))) (sym (take-append-le k.line.at t (e ∷ []) past.0)),
+  placed-push t e ks past.1 placed.1,
+)
+
+pub placed-line : (t : List Entry) (ks : List KeptLine) (k : KeptLine) → ArePlaced t ks → k.places.items ≡ places_about t k.line → ArePlaced t (ks ++ k ∷ [])
+placed-line t [] k placed here = (here, tt)
+placed-line t (x ∷ ks) k placed here = (placed.0, placed-line t ks k placed.1 here)
+
+-- the texts of acts by the places that are kept
+pub texts-kept : (t : List Entry) (place : ℕ) (u : Author) (ks : List KeptLine) → ArePlaced t ks
+    → flat_map (kept_text place u) ks ≡ map (λ l. l.text) (filter (is_shown t place u) (lines_in ks))
+texts-kept t place u [] placed = refl
+texts-kept t place u (k ∷ ks) placed =
+    (λ j. cond (sees_act u k.line.author && list_any (λ n. n == place) (placed.0 j)) (string_bytes k.text ∷ []) [] ++ texts-kept t place u ks placed.1 j)
+    ∙ by (is_shown t place u (shown_line k)) (filter (is_shown t place u) (lines_in ks))
+  where
+    by : (b : Bool) (ls : List ShownLine) → cond b (string_bytes k.text ∷ []) [] ++ map (λ (l : ShownLine). l.text) ls ≡ map (λ (l : ShownLine). l.text) (cond b (shown_line k ∷ ls) ls)
+    by true ls = refl
+    by false ls = refl
+
+-- one more line that is kept
+pub lines-push : (ks : List KeptLine) (k : KeptLine) → lines_of (lines_in (ks ++ k ∷ [])) ≡ lines_of (lines_in ks) ++ k.line ∷ []
+lines-push [] k = refl
+lines-push (x ∷ ks) k = ap (λ (ls : List CaseLine). x.line ∷ ls) (lines-push ks k)

@@ -1,10 +1,9 @@
 -- Texts that are put at the end of a block, one after another.
-use Rattle.std.proofs.Common.{◌≡◌, ◌≤◌, ◌∙◌, ◌++◌, ◌∷◌, ◌-◌, [], ℕ, List, ap, append_assoc, arith, drop, get_or, length, map, min, refl, take, Bor}
+use Rattle.std.proofs.Common.{◌≡◌, ◌≤◌, ◌<◌, ◌+◌, ◌∙◌, ◌++◌, ◌∷◌, ◌-◌, [], ℕ, List, ap, append_assoc, arith, drop, get_or, length, map, min, refl, sym, take, Bor}
 use Rattle.std.specs.Prelude.{OnOk, Result, Ok, Err, is_ok, if◌then◌else◌}
 use Rattle.std.specs.List.{flat_map}
 use Rattle.std.proofs.Math.Seq.{take-length}
-use Rattle.std.proofs.lemmas.List.{drop_min, length-drop, take_all, take_min}
-use Rattle.nmvs_rules.specs.declared.entry.Entry.{Entry}
+use Rattle.std.proofs.lemmas.List.{drop_min, flat_map_more, length-drop, take_all, take_min, take_more}
 use Rattle.nmvs_alerts.specs.Json.{joined, led}
 
 pub onward : (b s : List ℕ) {c : List ℕ} → c ≡ b ++ s → (r : List ℕ) → c ++ r ≡ b ++ (s ++ r)
@@ -31,11 +30,22 @@ hundred {X = X} (y ∷ ys) x n some is many =
     (λ i. is i ∷ take ((many ∙ ap (λ (zs : List X). min 99 (length zs)) (behind y ys)) i) (behind y ys i)) ∙ ap (λ (zs : List X). y ∷ zs) (take_min 99 ys)
 
 -- the same of all
-each : (f : Entry → List ℕ) (ys : List (Bor Entry)) → flat_map (λ e. led f e.now) ys ≡ flat_map (led f) (map (λ e. e.now) ys)
+each : {Y : Type 0} (f : Y → List ℕ) (ys : List (Bor Y)) → flat_map (λ e. led f e.now) ys ≡ flat_map (led f) (map (λ e. e.now) ys)
 each f [] = refl
 each f (y ∷ ys) = ap (λ (text : List ℕ). led f y.now ++ text) (each f ys)
 
-pub all-led : (f : Entry → List ℕ) (xs : List (Bor Entry)) (x : Bor Entry) → 1 ≤ length xs → x ≡ get_or xs 0 x
+pub all-led : {Y : Type 0} (f : Y → List ℕ) (xs : List (Bor Y)) (x : Bor Y) → 1 ≤ length xs → x ≡ get_or xs 0 x
     → f x.now ++ flat_map (λ e. led f e.now) (take (length xs - 1) (drop 1 xs)) ≡ joined f (map (λ e. e.now) xs)
 all-led f [] x some is = absurd (omega (arith, some))
 all-led f (y ∷ ys) x some is = (λ i. f (is i).now ++ flat_map (λ e. led f e.now) (behind y ys i)) ∙ ap (λ (text : List ℕ). f y.now ++ text) (each f ys)
+
+pub all-joined : {X : Type 0} (f : X → List ℕ) (xs : List X) (x : X) → 1 ≤ length xs → x ≡ get_or xs 0 x
+    → f x ++ flat_map (led f) (take (length xs - 1) (drop 1 xs)) ≡ joined f xs
+all-joined f [] x some is = absurd (omega (arith, some))
+all-joined f (y ∷ ys) x some is = λ i. f (is i) ++ flat_map (led f) (behind y ys i)
+
+-- one more piece of a walk
+pub piece-more : {X A : Type 0} (f : X → List A) (xs : List X) (i : ℕ) (x : X) → i < length xs → x ≡ get_or xs i x
+    → flat_map f (take i xs) ++ f x ≡ flat_map f (take (i + 1) xs)
+piece-more {X} f xs i x within is =
+    flat_map_more f [] (take i xs) x ∙ ap (λ (y : X). flat_map f (take i xs ++ y ∷ [])) is ∙ ap (flat_map f) (sym (take_more xs i x within))

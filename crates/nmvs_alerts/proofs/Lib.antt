@@ -1,4 +1,7 @@
 mod AlertLemmas
+mod AnswersExample
 mod EntryLemmas
 mod FollowLemmas
 mod JsonLemmas
+mod NoHouseLemmas
+mod RenamingLemmas

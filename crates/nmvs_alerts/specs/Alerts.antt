@@ -1,6 +1,6 @@
 -- The flagged alerts of a trail (Article 36(b)), and the case of each by the lines of a list of cases (own, for Article 37(d)).
-use Rattle.std.specs.Prelude.{ℕ, ◌≤◌, true, List, [], ◌∷◌, ◌++◌, length, map, take, Option, Some, None}
-use Rattle.std.specs.List.{AllByRecursion, slice_get}
+use Rattle.std.specs.Prelude.{ℕ, ◌≡◌, ◌≤◌, ◌==◌, ◌&&◌, Bool, true, false, List, [], ◌∷◌, ◌++◌, filter, length, map, string_bytes, take, Option, Some, None, if◌then◌else◌}
+use Rattle.std.specs.List.{All, AllByRecursion, list_any, slice_get}
 use Rattle.std.specs.Option.{option_map_or, option_and_then}
 use Rattle.nmvs_identifier.specs.declared.pack.Pack.{Pack}
 use Rattle.nmvs_rules.specs.declared.cause.Cause.{Cause}
@@ -10,20 +10,27 @@ use Rattle.nmvs_rules.specs.declared.reply.Reply.{Reply}
 use Rattle.nmvs_rules.specs.declared.reply.Reply.TheVariants.{Alert}
 use Rattle.nmvs_rules.specs.Facts.{pack_fact}
 use Rattle.nmvs_rules.specs.Questions.{code_of, pack_of}
+use Rattle.nmvs_cases.specs.declared.author.Author.{Author}
 use Rattle.nmvs_cases.specs.declared.case.Case.{Case}
 use Rattle.nmvs_cases.specs.declared.case.Case.TheVariants.{Open}
 use Rattle.nmvs_cases.specs.declared.hint.Hint.{Hint}
 use Rattle.nmvs_cases.specs.declared.line.CaseLine.{CaseLine}
-use Rattle.nmvs_cases.specs.Cases.{on}
+use Rattle.nmvs_cases.specs.Cases.{has, on}
 use Rattle.nmvs_cases.specs.Hints.{hint_by, repeated_hint}
 use Rattle.nmvs_alerts.specs.declared.alert.FlaggedAlert.{FlaggedAlert}
 use Rattle.nmvs_alerts.specs.declared.flagged.Flagged.{Flagged}
 use Rattle.nmvs_alerts.specs.declared.investigation.KeptLine.{KeptLine}
+use Rattle.nmvs_alerts.specs.Viewing.{sees_act}
+
+-- a line of cases, and the text that is shown of it
+pub record ShownLine : Type 0 where
+  pub line : CaseLine
+  pub text : List ℕ
 
 -- a trail of which lines of cases speak
 pub record Investigated : Type 0 where
   pub trail : List Entry
-  pub lines : List CaseLine
+  pub lines : List ShownLine
 
 abbrev pub listed : {A : Type 0} → Option A → List A
 listed None = []
@@ -86,10 +93,43 @@ after_lines t f (l ∷ ls) = after_lines t (with_case t l f) ls
 abbrev pub flagged_of : List Entry → List CaseLine → List Flagged
 flagged_of t ls = map (λ f. after_lines t f ls) (raised t)
 
--- the lines that are kept
-abbrev pub lines_in : List KeptLine → List CaseLine
-lines_in ks = map (λ k. k.line) ks
-
 -- each line was written over entries of the trail
 abbrev pub ArePast : List Entry → List CaseLine → Type 0
 ArePast t ls = AllByRecursion (λ l. l.at ≤ length t) ls
+
+abbrev pub lines_of : List ShownLine → List CaseLine
+lines_of ls = map (λ l. l.line) ls
+
+abbrev pub flagged_in : Investigated → List Flagged
+flagged_in i = flagged_of i.trail (lines_of i.lines)
+
+-- whether a line is about a flagged alert, by its name and the hint at it
+abbrev pub is_meant : List Entry → CaseLine → Flagged → Bool
+is_meant t l f = option_map_or (λ a. has l.range a.name.code a.name.number a.hint) (alert_of t f) false
+
+-- the places of the alerts that a line is about, over the trail that it was written over
+abbrev pub places_about : List Entry → CaseLine → List ℕ
+places_about t l = map (λ f. f.place) (filter (is_meant (take l.at t) l) (raised (take l.at t)))
+
+-- the lines that are kept
+abbrev pub shown_line : KeptLine → ShownLine
+shown_line k = record { line = k.line; text = string_bytes k.text }
+
+abbrev pub lines_in : List KeptLine → List ShownLine
+lines_in ks = map shown_line ks
+
+-- each has the places of the alerts that it is about
+abbrev pub ArePlaced : List Entry → List KeptLine → Type 0
+ArePlaced t ks = AllByRecursion (λ k. k.places.items ≡ places_about t k.line) ks
+
+-- the text of a line, if it is about the flagged alert at a place, and its author's act is seen
+abbrev pub kept_text : ℕ → Author → KeptLine → List (List ℕ)
+kept_text place u k = if sees_act u k.line.author && list_any (λ n. n == place) k.places.items then string_bytes k.text ∷ [] else []
+
+-- whether a line is about the flagged alert at a place, and its author's act is seen
+abbrev pub is_shown : List Entry → ℕ → Author → ShownLine → Bool
+is_shown t place u l = sees_act u l.line.author && list_any (λ n. n == place) (places_about t l.line)
+
+-- the texts of the acts on the flagged alert at a place that a reader sees
+abbrev pub texts_on : Investigated → ℕ → Author → List (List ℕ)
+texts_on i place u = map (λ l. l.text) (filter (is_shown i.trail place u) i.lines)

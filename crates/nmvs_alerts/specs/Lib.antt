@@ -1,10 +1,14 @@
 pub mod Alerts
+pub mod Answers
 pub mod Entries
 pub mod Following
 pub mod Json
 pub mod Judging
+pub mod Laws
+pub mod Numbers
 pub mod One
 pub mod Pages
+pub mod Renaming
 pub mod Rows
 pub mod Selection
 pub mod Story

@@ -9,8 +9,11 @@ use Rattle.nmvs_rules.specs.declared.role.Role.{Role}
 use Rattle.nmvs_rules.specs.declared.role.Role.TheVariants.{Holder, Manufacturer, Wholesaler, Pharmacy, Authority}
 use Rattle.nmvs_rules.specs.Questions.{code_of}
 use Rattle.nmvs_rules.specs.Trail.{holder_of}
+use Rattle.nmvs_cases.specs.declared.act.Reader.{Reader}
+use Rattle.nmvs_cases.specs.declared.act.Reader.TheVariants.{Owner}
 use Rattle.nmvs_cases.specs.declared.author.Author.{Author}
 use Rattle.nmvs_cases.specs.declared.author.Author.TheVariants.{Officer, User}
+use Rattle.nmvs_cases.specs.Authors.{author_reader, author_user}
 
 -- whether the authorisation holds the product code, if anybody does
 abbrev pub is_holder : Name → Option Name → Bool
@@ -44,3 +47,11 @@ houses_shown_to r = true
 abbrev pub sees_houses : Author → Bool
 sees_houses (Officer u) = true
 sees_houses (User u a) = houses_shown_to a.role
+
+-- whether somebody sees what an author did: owners see their own alone
+abbrev pub own_or_all : Reader → Bool → Bool
+own_or_all Owner own = own
+own_or_all r own = true
+
+abbrev pub sees_act : Author → Author → Bool
+sees_act u by = own_or_all (author_reader u) (same_text (author_user by) (author_user u))

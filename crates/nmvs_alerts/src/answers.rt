@@ -1,25 +1,31 @@
 //! The answers to readers.
+ghost use Rattle.std.specs.Prelude.{◌≡◌, ◌++◌, OnOk, find, map};
+ghost use Rattle.std.specs.List.{flat_map};
+ghost use Rattle.nmvs_alerts.specs.Answers as answers;
+ghost use Rattle.nmvs_alerts.specs.Json.{joined};
+ghost use Rattle.nmvs_alerts.specs.Story.{line_for, seen};
+
 use crate::alert::alert_of;
 use crate::entries::append_entries;
 use crate::flagged::Flagged;
 use crate::houses::append_silent;
 use crate::inspected::may_inspect;
-use crate::json::{append, append_name, append_number, append_text};
-use crate::names::named;
+use crate::json::{append, append_decimal, append_joined, append_name, append_number, append_text};
 use crate::numbers::append_numbers;
 use crate::one::append_alert;
 use crate::pages::append_alerts;
 use crate::rows_answer::{append_alert_rows, append_rows};
 use crate::selection::ranged;
 use crate::story::append_story;
-use crate::viewing::sees_houses;
+use crate::viewing::{may_see, sees_houses};
 use crate::{AlertFilter, FlaggedAlert, Inspected, Investigation};
 use nmvs_cases::{Author, Hinted, Reader};
-use nmvs_identifier::{Name, ProductCode};
+use nmvs_identifier::{Name, Pack, ProductCode};
 use nmvs_inspect::Filter;
 use nmvs_reports::AlertName;
 use nmvs_rules::{Actor, Role};
-use std::alloc::{AllocError, Global};
+use nmvs_shard::Shard;
+use std::alloc::{AllocError, Allocator, Global};
 
 /// What a reader asks for.
 #[derive(Clone, Copy)]
@@ -76,9 +82,13 @@ pub fn answer(
         Request::AlertRows(filter) => {
             return append_alert_rows(alloc, block, shard, flagged, author, filter);
         }
-        Request::Alert(name) => return append_one(alloc, block, investigation, author, name),
+        Request::Alert(name) => match alert_named(shard, flagged, author, name) {
+            Some(alert) => append_standing(alloc, block, investigation, author, &alert)?,
+            None => return Ok(Status::NoAlert),
+        },
         Request::Range(code, hinted) => {
-            append_range(alloc, block, investigation, author, code, *hinted)?
+            let found = ranged(alloc, shard, flagged, author, code, *hinted)?;
+            append_range(block, shard, &found)?
         }
         Request::Numbers => append_numbers(alloc, block, shard, flagged, author)?,
         Request::Entries(filter, from) => match entries_of(author, filter) {
@@ -102,7 +112,9 @@ pub fn answer(
 }
 
 /// Whether somebody may ask for alerts by who raised them: who does not see that may not (Article 38).
-fn may_ask(author: &Author, filter: &Filter) -> bool {
+fn may_ask(author: &Author, filter: &Filter) -> bool
+    ensures { result ≡ answers.may_ask author.now filter.now }
+{
     sees_houses(author)
         || (filter.user.is_none()
             && filter.role.is_none()
@@ -111,7 +123,9 @@ fn may_ask(author: &Author, filter: &Filter) -> bool {
 }
 
 /// The filter of the entries that a reader asks for and sees: an authority all, a house its own, and others none (Articles 38 and 39).
-fn entries_of(author: &Author, filter: &Filter) -> Option<Filter> {
+fn entries_of(author: &Author, filter: &Filter) -> Option<Filter>
+    ensures { result ≡ answers.entries_of author.now filter.now }
+{
     let Author::User(_, actor) = author else {
         return None;
     };
@@ -123,7 +137,9 @@ fn entries_of(author: &Author, filter: &Filter) -> Option<Filter> {
 }
 
 /// The same filter for the entries of a house alone; none if it is for another's.
-fn own_entries(actor: &Actor, filter: &Filter) -> Option<Filter> {
+fn own_entries(actor: &Actor, filter: &Filter) -> Option<Filter>
+    ensures { result ≡ answers.own_entries actor.now filter.now }
+{
     if is_other(&filter.authorisation, &actor.authorisation)
         || is_other(&filter.premises, &actor.premises)
     {
@@ -136,31 +152,45 @@ fn own_entries(actor: &Actor, filter: &Filter) -> Option<Filter> {
     })
 }
 
-fn is_other(wanted: &Option<Name>, own: &Name) -> bool {
+fn is_other(wanted: &Option<Name>, own: &Name) -> bool
+    ensures { result ≡ answers.is_other wanted.now own.now }
+{
     match wanted {
         None => false,
         Some(wanted) => *wanted != *own,
     }
 }
 
+#[tactic(auto, unfolding(crate::specs::Answers::reader_text))]
 fn append_reader(
     block: &mut Vec<u8>,
     investigation: &Investigation,
     author: &Author,
     fault: &str,
-) -> Result<(), AllocError> {
-    append(block, "{\"user\":\"")?;
-    append(block, author.user().text())?;
-    append(block, "\"")?;
-    append_text(block, "reads", reads_as(author))?;
+) -> Result<(), AllocError>
+    ensures { OnOk result (block.new.items ≡ block.old.items ++ answers.reader_text investigation.now.trail author.now fault.now) }
+{
+    append_user(block, author)?;
     append_number(block, "entries", investigation.len() as u64)?;
     append_number(block, "moment", last_moment(investigation))?;
     append_text(block, "fault", fault)?;
     append(block, "}")
 }
 
+#[tactic(auto, unfolding(crate::specs::Answers::user_text))]
+fn append_user(block: &mut Vec<u8>, author: &Author) -> Result<(), AllocError>
+    ensures { OnOk result (block.new.items ≡ block.old.items ++ answers.user_text author.now) }
+{
+    append(block, "{\"user\":\"")?;
+    append(block, author.user().text())?;
+    append(block, "\"")?;
+    append_text(block, "reads", reads_as(author))
+}
+
 /// The word of how somebody reads.
-fn reads_as(author: &Author) -> &'static str {
+fn reads_as(author: &Author) -> &'static str
+    ensures { result.now ≡ answers.reads_as author.now }
+{
     match author {
         Author::Officer(_) => "OFFICER",
         Author::User(_, actor) => match actor.role {
@@ -172,7 +202,9 @@ fn reads_as(author: &Author) -> &'static str {
 }
 
 /// The moment of the last entry, or 0 if there is none.
-fn last_moment(investigation: &Investigation) -> u64 {
+fn last_moment(investigation: &Investigation) -> u64
+    ensures { result ≡ answers.last_moment investigation.now.trail }
+{
     let last = investigation.len().saturating_sub(1);
     match investigation.shard().entry_at(last) {
         Some(entry) => entry.put.moment.seconds() as u64,
@@ -180,92 +212,147 @@ fn last_moment(investigation: &Investigation) -> u64 {
     }
 }
 
-/// Puts the alert of a name at the end of a block, if the reader sees it.
-fn append_one(
-    alloc: Global,
-    block: &mut Vec<u8>,
-    investigation: &Investigation,
+/// The flagged alert of a name, if the reader sees it.
+fn alert_named<A: Allocator>(
+    shard: &Shard<A>,
+    flagged: &[Flagged],
     author: &Author,
     name: &AlertName,
-) -> Result<Status, AllocError> {
-    let Some((flagged, alert)) = named(investigation, author, name) else {
-        return Ok(Status::NoAlert);
-    };
-    append_alert(alloc, block, investigation.shard(), author, &alert)?;
-    append_acts(alloc, block, investigation, author, &flagged)?;
-    append_pack_story(alloc, block, investigation, author, &alert)?;
-    append(block, "}")?;
-    Ok(Status::Found)
+) -> Option<Flagged>
+    ensures { result ≡ find (answers.is_it shard.now author.now name.now) flagged.now }
+{
+    flagged
+        .iter()
+        .copied()
+        .find(|alert| is_it(shard, author, name, alert))
 }
 
-/// Puts the lines of the acts on an alert at the end of a block. Owners see their own alone.
-fn append_acts(
+/// Whether a flagged alert has the name, and the reader sees it.
+fn is_it<A: Allocator>(
+    shard: &Shard<A>,
+    author: &Author,
+    name: &AlertName,
+    flagged: &Flagged,
+) -> bool
+    ensures { result ≡ answers.is_it shard.now author.now name.now flagged.now }
+{
+    match shard.entry_at(flagged.place) {
+        Some(entry) => name.names(&entry) && may_see(shard.tables(), author, &entry.put),
+        None => false,
+    }
+}
+
+/// Puts a flagged alert at the end of a block, with its acts and the story of its pack, as the reader sees them.
+fn append_standing(
     alloc: Global,
     block: &mut Vec<u8>,
     investigation: &Investigation,
     author: &Author,
     flagged: &Flagged,
-) -> Result<(), AllocError> {
-    let by = match author.reader() {
-        Reader::Owner => Some(author.user()),
-        Reader::Officer | Reader::Authority => None,
-    };
+) -> Result<(), AllocError>
+    ensures { OnOk result (block.new.items ≡ block.old.items ++ answers.stands_text investigation.now author.now flagged.now) }
+{
+    match alert_of(investigation.shard(), flagged) {
+        None => Ok(()),
+        Some(alert) => append_one(alloc, block, investigation, author, flagged, &alert),
+    }
+}
+
+#[tactic(auto, unfolding(crate::specs::Answers::one_text))]
+fn append_one(
+    alloc: Global,
+    block: &mut Vec<u8>,
+    investigation: &Investigation,
+    author: &Author,
+    flagged: &Flagged,
+    alert: &FlaggedAlert,
+) -> Result<(), AllocError>
+    ensures { OnOk result (block.new.items ≡ block.old.items ++ answers.one_text investigation.now author.now flagged.now alert.now) }
+{
+    append_alert(alloc, block, investigation.shard(), author, alert)?;
+    let texts = investigation.texts_on(alloc, flagged.place, author)?;
+    append_acts(block, &texts)?;
+    append_story_member(
+        alloc,
+        block,
+        investigation.shard(),
+        author,
+        &alert.entry.put.question.pack(),
+    )?;
+    append(block, "}")
+}
+
+/// Puts the texts of acts at the end of a block.
+#[tactic(auto, unfolding(crate::specs::Answers::acts_text))]
+fn append_acts(block: &mut Vec<u8>, texts: &[&str]) -> Result<(), AllocError>
+    ensures { OnOk result (block.new.items ≡ block.old.items ++ answers.acts_text (map (λ text. text.now) texts.now)) }
+{
     append_name(block, "acts")?;
     append(block, "[")?;
-    for (number, text) in investigation
-        .texts_on(alloc, flagged.place, by)?
-        .iter()
-        .enumerate()
-    {
-        if number > 0 {
-            append(block, ",")?;
-        }
-        append(block, text)?;
-    }
+    append_joined(block, texts)?;
     append(block, "]")
 }
 
-/// Puts the story of an alert's pack at the end of a block, as the reader sees it.
-fn append_pack_story(
+/// Puts the story of a pack at the end of a block, as the reader sees it.
+#[tactic(auto, unfolding(crate::specs::Answers::story_text))]
+fn append_story_member(
     alloc: Global,
     block: &mut Vec<u8>,
-    investigation: &Investigation,
+    shard: &Shard<Global>,
     author: &Author,
-    alert: &FlaggedAlert,
-) -> Result<(), AllocError> {
+    pack: &Option<Pack>,
+) -> Result<(), AllocError>
+    ensures { OnOk result (block.new.items ≡ block.old.items ++ answers.story_text shard.now author.now pack.now) }
+{
     append_name(block, "story")?;
     append(block, "[")?;
-    if let Some(pack) = alert.entry.put.question.pack() {
-        let entries = investigation.shard().entries_of(&pack)?;
-        append_story(alloc, block, author, &entries)?;
-    }
+    append_entries_about(alloc, block, shard, author, pack)?;
     append(block, "]")
 }
 
-/// Puts the smallest range at the end of a block that has all listed alerts on a product code with these hints, and their number.
-fn append_range(
+fn append_entries_about(
     alloc: Global,
     block: &mut Vec<u8>,
-    investigation: &Investigation,
+    shard: &Shard<Global>,
     author: &Author,
-    code: &ProductCode,
-    hinted: Hinted,
-) -> Result<(), AllocError> {
-    let shard = investigation.shard();
-    let found = ranged(alloc, shard, investigation.flagged(), author, code, hinted)?;
-    let (mut first, mut last) = (0, 0);
-    for flagged in found.iter() {
-        if let Some(alert) = alert_of(shard, flagged) {
-            if first == 0 {
-                first = alert.name.number;
-            }
-            last = alert.name.number;
+    pack: &Option<Pack>,
+) -> Result<(), AllocError>
+    ensures { OnOk result (block.new.items ≡ block.old.items ++ joined (line_for author.now) (flat_map (seen author.now) (answers.story_of shard.now pack.now))) }
+{
+    match pack {
+        None => Ok(()),
+        Some(pack) => {
+            let entries = shard.entries_of(pack)?;
+            append_story(alloc, block, author, &entries)
         }
     }
+}
+
+/// Puts the smallest range at the end of a block that has these alerts, which are of one product code and oldest first, and their number.
+#[tactic(auto, unfolding(crate::specs::Answers::range_text))]
+fn append_range<A: Allocator>(
+    block: &mut Vec<u8>,
+    shard: &Shard<A>,
+    found: &[Flagged],
+) -> Result<(), AllocError>
+    ensures { OnOk result (block.new.items ≡ block.old.items ++ answers.range_text shard.now found.now) }
+{
     append(block, "{\"first\":")?;
-    let mut buffer = itoa::Buffer::new();
-    append(block, buffer.format(first))?;
-    append_number(block, "last", last)?;
+    append_decimal(block, number_of(shard, &found.first().copied()))?;
+    append_number(block, "last", number_of(shard, &found.last().copied()))?;
     append_number(block, "alerts", found.len() as u64)?;
     append(block, "}")
+}
+
+/// The number of a flagged alert, or 0 if there is none.
+fn number_of<A: Allocator>(shard: &Shard<A>, flagged: &Option<Flagged>) -> u64
+    ensures { result ≡ answers.number_of shard.now flagged.now }
+{
+    match flagged {
+        None => 0,
+        Some(flagged) => match alert_of(shard, flagged) {
+            None => 0,
+            Some(alert) => alert.name.number,
+        },
+    }
 }

@@ -1,5 +1,5 @@
 //! Texts of JSON.
-ghost use Rattle.std.specs.Prelude.{◌≡◌, ◌++◌, OnOk};
+ghost use Rattle.std.specs.Prelude.{◌≡◌, ◌++◌, OnOk, decimal, map};
 ghost use Rattle.std.specs.List.{flat_map};
 ghost use Rattle.nmvs_line.specs.Line.{escaped};
 ghost use Rattle.nmvs_alerts.specs.Json as json;
@@ -51,6 +51,13 @@ pub(crate) fn append_number(block: &mut Vec<u8>, name: &str, number: u64) -> Res
     ensures { OnOk result (block.new.items ≡ block.old.items ++ json.number_member name.now number) }
 {
     append_name(block, name)?;
+    append_decimal(block, number)
+}
+
+/// Puts the decimals of a number at the end of a block.
+pub(crate) fn append_decimal(block: &mut Vec<u8>, number: u64) -> Result<(), AllocError>
+    ensures { OnOk result (block.new.items ≡ block.old.items ++ decimal number) }
+{
     let mut buffer = Buffer::new();
     append(block, buffer.format(number))
 }
@@ -63,4 +70,31 @@ pub(crate) fn append_name(block: &mut Vec<u8>, name: &str) -> Result<(), AllocEr
     append(block, ",\"")?;
     append(block, name)?;
     append(block, "\":")
+}
+
+/// Puts texts at the end of a block, with commas between them.
+pub(crate) fn append_joined(block: &mut Vec<u8>, texts: &[&str]) -> Result<(), AllocError>
+    ensures { OnOk result (block.new.items ≡ block.old.items ++ json.joined (λ text. text) (map (λ text. text.now) texts.now)) }
+{
+    let [first, others @ ..] = texts else {
+        return Ok(());
+    };
+    append(block, first)?;
+    append_all_led(block, others)
+}
+
+fn append_all_led(block: &mut Vec<u8>, others: &[&str]) -> Result<(), AllocError>
+    ensures { OnOk result (block.new.items ≡ block.old.items ++ flat_map (λ text. json.led (λ bytes. bytes) text.now) others.now) }
+{
+    for other in others {
+        append_led(block, other)?;
+    }
+    Ok(())
+}
+
+fn append_led(block: &mut Vec<u8>, text: &str) -> Result<(), AllocError>
+    ensures { OnOk result (block.new.items ≡ block.old.items ++ json.led (λ bytes. bytes) text.now) }
+{
+    append(block, ",")?;
+    append(block, text)
 }

@@ -1,5 +1,6 @@
 //! Whether an act may be done.
-ghost use Rattle.std.specs.Prelude.{◌≡◌, count_by, false};
+ghost use Rattle.std.specs.Prelude.{◌≡◌, count_by};
+ghost use Rattle.nmvs_alerts.specs.Alerts.{is_meant};
 ghost use Rattle.nmvs_alerts.specs.Judging as judging;
 
 use crate::FlaggedAlert;
@@ -69,13 +70,6 @@ fn is_counted(at_all: bool, on: On) -> bool
     }
 }
 
-/// Whether the act of a line is done on a flagged alert. The line is written over the trail as it is.
-pub(crate) fn is_done<A: Allocator>(shard: &Shard<A>, flagged: &Flagged, line: &CaseLine) -> bool
-    ensures { result ≡ judging.is_counted false (judging.on_in shard.now line.now flagged.now) }
-{
-    is_counted(false, standing(shard, flagged, line))
-}
-
 /// What a line is for an alert.
 #[derive(Clone, Copy)]
 enum On {
@@ -100,6 +94,16 @@ fn standing<A: Allocator>(shard: &Shard<A>, flagged: &Flagged, line: &CaseLine) 
     {
         Some(_) => On::May,
         None => On::MayNot,
+    }
+}
+
+/// Whether a line is about a flagged alert.
+pub(crate) fn is_about<A: Allocator>(shard: &Shard<A>, flagged: &Flagged, line: &CaseLine) -> bool
+    ensures { result ≡ is_meant shard.now line.now flagged.now }
+{
+    match alert_of(shard, flagged) {
+        Some(alert) => has(line, &alert),
+        None => false,
     }
 }
 

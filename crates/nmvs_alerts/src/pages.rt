@@ -7,11 +7,10 @@ ghost use Rattle.nmvs_alerts.specs.Pages as pages;
 use crate::AlertFilter;
 use crate::alert::alert_of;
 use crate::flagged::Flagged;
-use crate::json::append;
+use crate::json::{append, append_decimal};
 use crate::row::append_row;
 use crate::selection::select;
 use crate::viewing::sees_houses;
-use itoa::Buffer;
 use nmvs_cases::Author;
 use nmvs_shard::Shard;
 use std::alloc::{AllocError, Allocator, Global};
@@ -131,8 +130,7 @@ fn append_next<A: Allocator>(
     }
     let last = &found[MOST_ROWS - 1];
     append(block, letter_of(is_hinted(shard, last)))?;
-    let mut buffer = Buffer::new();
-    append(block, buffer.format(last.place as u64))
+    append_decimal(block, last.place as u64)
 }
 
 fn is_hinted<A: Allocator>(shard: &Shard<A>, flagged: &Flagged) -> bool

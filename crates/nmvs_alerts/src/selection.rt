@@ -4,6 +4,7 @@ ghost use Rattle.std.specs.List.{flat_map};
 ghost use Rattle.std.specs.Str.{bytes_eq};
 ghost use Rattle.nmvs_inspect.specs.Filter.{is_wanted as is_wanted_by};
 ghost use Rattle.nmvs_words.specs.Words.{cause_word as word_of_cause};
+ghost use Rattle.nmvs_alerts.specs.Answers as answers;
 ghost use Rattle.nmvs_alerts.specs.Selection as selection;
 
 use crate::FlaggedAlert;
@@ -108,7 +109,7 @@ pub(crate) fn select<A: Allocator>(
     Ok(found)
 }
 
-/// The listed alerts on a product code with these hints that a reader sees, oldest first where they are those of one hint.
+/// The listed alerts on a product code with these hints that a reader sees, oldest first.
 ///
 /// # Errors
 ///
@@ -120,8 +121,23 @@ pub(crate) fn ranged<A: Allocator>(
     author: &Author,
     code: &ProductCode,
     hinted: Hinted,
-) -> Result<Vec<Flagged>, AllocError> {
-    let filter = AlertFilter {
+) -> Result<Vec<Flagged>, AllocError>
+    ensures { IfOk result (λ found. found.items ≡ answers.ranged shard.now author.now code.now hinted flagged.now) }
+{
+    let filter = of_code(code, hinted);
+    let mut found = Vec::new(alloc);
+    for alert in flagged {
+        append_if_wanted(shard, alert, author, &filter, false, &mut found)?;
+        append_if_wanted(shard, alert, author, &filter, true, &mut found)?;
+    }
+    Ok(found)
+}
+
+/// The filter of the listed alerts on a product code with these hints.
+fn of_code(code: &ProductCode, hinted: Hinted) -> AlertFilter
+    ensures { result ≡ answers.of_code code.now hinted }
+{
+    AlertFilter {
         entries: Filter {
             code: Some(*code),
             ..Filter::new()
@@ -130,8 +146,7 @@ pub(crate) fn ranged<A: Allocator>(
         hinted,
         wanted: Wanted::Listed,
         behind: None,
-    };
-    select(alloc, shard, flagged, author, &filter)
+    }
 }
 
 /// Puts those that have a hint, or those that have none, at the end of a list.

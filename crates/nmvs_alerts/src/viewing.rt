@@ -5,7 +5,7 @@ ghost use Rattle.nmvs_rules.specs.declared.entry.Entry.{Entry as AnEntry};
 ghost use Rattle.nmvs_tables.specs.Tables.{AreTablesOf};
 ghost use Rattle.nmvs_alerts.specs.Viewing as views;
 
-use nmvs_cases::Author;
+use nmvs_cases::{Author, Reader};
 use nmvs_identifier::Name;
 use nmvs_rules::{Actor, Put, Role};
 use nmvs_shard::Tables;
@@ -55,5 +55,15 @@ pub(crate) fn sees_houses(author: &Author) -> bool
     match author {
         Author::Officer(_) => true,
         Author::User(_, actor) => !matches!(actor.role, Role::Holder),
+    }
+}
+
+/// Whether somebody sees what an author did: owners see their own alone.
+pub(crate) fn sees_act(reader: &Author, by: &Author) -> bool
+    ensures { result ≡ views.sees_act reader.now by.now }
+{
+    match reader.reader() {
+        Reader::Owner => *by.user() == *reader.user(),
+        Reader::Officer | Reader::Authority => true,
     }
 }
