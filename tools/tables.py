@@ -65,12 +65,13 @@ def reply_lines():
 
 def field_words():
     for name, table in {**rows.FIELDS, "role": rows.ROLES}.items():
-        yield f"`{name}`", code(rows.words(table)), table[0][2]
+        sources = {own for *_, own in table}
+        yield f"`{name}`", code(rows.words(table)), sources.pop() if len(sources) == 1 else "each its own: [Terminals](TERMINALS.md#refusals)"
 
 
 def refusals():
-    for number, word in enumerate(rows.words(rows.REFUSALS), 1):
-        yield f"`{number} {word}`", None
+    for number, (word, _, own) in enumerate(rows.REFUSALS, 1):
+        yield f"`{number} {word}`", None, own
 
 
 def request_statuses():
@@ -135,7 +136,7 @@ MADE = {
     "docs/RULES.md": [with_rows(("Word", "Question", "Roles", "Source"), who_may_ask)],
     "docs/TERMINALS.md": [
         with_rows(("Line", "When", "Reply when all is well"), question_lines),
-        with_rows(("Refusal", "Action"), refusals),
+        with_rows(("Refusal", "Action", "Source"), refusals),
     ],
     "docs/PROTOCOL.md": [
         with_rows(("Reply", "Meaning", "Source"), reply_lines),

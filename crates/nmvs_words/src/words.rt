@@ -177,23 +177,23 @@ pub fn flag_named(word: &str) -> Option<bool>
     }
 }
 
-/// The refusals, the first with number 1 (after Articles 13 and 40).
+/// The refusals, each with its source; the first has number 1, and the words are own.
 pub const REFUSALS: [(&str, Refusal); 15] = [
-    ("ROLE", Refusal::Role),
-    ("UNKNOWN", Refusal::Unknown),
-    ("UNKNOWN_BATCH", Refusal::UnknownBatch),
-    ("NOT_HOLDER", Refusal::NotHolder),
-    ("DUPLICATE", Refusal::Duplicate),
-    ("ALREADY", Refusal::Already),
-    ("LOCKED", Refusal::Locked),
-    ("STILL_ACTIVE", Refusal::StillActive),
-    ("IS_STOLEN", Refusal::IsStolen),
-    ("IS_DESTROYED", Refusal::IsDestroyed),
-    ("WAS_SUPPLIED", Refusal::WasSupplied),
-    ("OTHER", Refusal::Other),
-    ("LATE", Refusal::Late),
-    ("EXPIRED", Refusal::Expired),
-    ("NOT_HELD", Refusal::NotHeld),
+    ("ROLE", Refusal::Role), // own
+    ("UNKNOWN", Refusal::Unknown), // own, after Articles 13 and 40
+    ("UNKNOWN_BATCH", Refusal::UnknownBatch), // own, after Article 40
+    ("NOT_HOLDER", Refusal::NotHolder), // own, after Articles 33 and 40
+    ("DUPLICATE", Refusal::Duplicate), // Article 35(3)
+    ("ALREADY", Refusal::Already), // own, after Article 40
+    ("LOCKED", Refusal::Locked), // Articles 13(1)(d) and 40
+    ("STILL_ACTIVE", Refusal::StillActive), // own, after Article 13
+    ("IS_STOLEN", Refusal::IsStolen), // Article 13(1)(d)
+    ("IS_DESTROYED", Refusal::IsDestroyed), // Article 13(1)(d)
+    ("WAS_SUPPLIED", Refusal::WasSupplied), // Article 13(1)(e)
+    ("OTHER", Refusal::Other), // Article 13(1)(a)
+    ("LATE", Refusal::Late), // Article 13(1)(b)
+    ("EXPIRED", Refusal::Expired), // Article 13(1)(c)
+    ("NOT_HELD", Refusal::NotHeld), // own, after Article 25
 ];
 
 /// The word of a refusal.
