@@ -1,9 +1,10 @@
 -- A hint says what the trail has.
-use Rattle.std.proofs.Common.{◌≡◌, ◌⊎◌, inl, inr, ◌≤◌, ◌+◌, ◌&&◌, ℕ, Bool, true, false, not, cond, List, Option, Some, None, refl, sym, subst, ap, ◌∙◌, arith}
+use Rattle.std.proofs.Common.{◌≡◌, ◌≢◌, ◌⊎◌, inl, inr, ◌≤◌, ◌+◌, ◌&&◌, ℕ, Bool, true, false, not, cond, List, Option, Some, None, refl, sym, subst, ap, ◌∙◌, arith}
 use Rattle.std.specs.Prelude.{find, nat_le}
 use Rattle.std.specs.Option.{is_some, option_and_then}
 use Rattle.std.proofs.lemmas.Bool.{and_parts}
 use Rattle.std.proofs.lemmas.Bool.Decides.{nat_tests}
+use Rattle.nmvs_identifier.specs.Name.{Name}
 use Rattle.nmvs_identifier.specs.Texts.{same_text}
 use Rattle.nmvs_identifier.specs.declared.pack.Pack.{Pack}
 use Rattle.nmvs_rules.specs.declared.cause.Cause.{Cause}
@@ -18,7 +19,7 @@ use Rattle.nmvs_rules.proofs.Accepted.{first-upload, last-operation}
 use Rattle.nmvs_rules.proofs.BirthLemmas.{is_some-known}
 use Rattle.nmvs_rules.proofs.FindLemmas.{find-passes}
 use Rattle.nmvs_rules.proofs.MarkLemmas.{known-by}
-use Rattle.nmvs_rules.proofs.TextLemmas.{same_text-bytes}
+use Rattle.nmvs_rules.proofs.TextLemmas.{same_text-bytes, same_text-from_bytes}
 use Rattle.nmvs_cases.specs.declared.hint.Hint.{Hint}
 use Rattle.nmvs_cases.specs.declared.hint.Hint.TheVariants.{Late, Own, House}
 use Rattle.nmvs_cases.specs.Hints.{all_hints, hint_behind, hint_by, holds_behind, holds_of_unknown, is_in_a_day, is_own_cause, repeated_hint}
@@ -52,38 +53,51 @@ late-unknown : (t : List Entry) (q : Put) (p : Pack) (k : Option Known) (c : Cau
 late-unknown t q p k c (inl h) = (h.0, ap is_some (first-upload t p) ∙ sym (is_some-known t p) ∙ h.1)
 late-unknown t q p k c (inr h) = absurd (cc h.2)
 
--- a hint of a repetition is one
+-- a hint of a repetition is one, of an operation at the premises of the mark
 abbrev IsSame : Mark → Put → Type 0
 IsSame m q = (is_in_a_day m q && same_text m.authorisation q.actor.authorisation) ≡ true
 
-same-repeats : (before : List Entry) (p : Pack) (q : Put) (it : Known) → known before p ≡ Some it → IsSame it.mark q → IsRepeated before p q
-same-repeats before p q it is same =
+repeats : (before : List Entry) (p : Pack) (q : Put) (it : Known) → known before p ≡ Some it → IsSame it.mark q
+    → (r : IsRepeated before p q) × (it.mark.premises ≡ r.last.put.actor.premises)
+repeats before p q it is same =
     let by = known-by before p it is in
     let parts = and_parts (is_in_a_day it.mark q) (same_text it.mark.authorisation q.actor.authorisation) same in
     let moments : it.mark.moment ≡ by.last.put.moment = ap (λ (k : Known). k.mark.moment) by.known in
     let authors : it.mark.authorisation.bytes ≡ by.last.put.actor.authorisation.bytes = ap (λ (k : Known). k.mark.authorisation.bytes) by.known in
-    let in_time : q.moment ≤ it.mark.moment + 86400 = day q.moment (it.mark.moment + 86400) parts.0 in
-    record {
-      last = by.last;
-      latest = last-operation before p ∙ by.marked;
-      authorisation = sym authors ∙ same_text-bytes it.mark.authorisation q.actor.authorisation parts.1;
-      soon = subst (λ (n : ℕ). q.moment ≤ n + 86400) moments in_time;
-    }
+    let in_time : q.moment ≤ it.mark.moment + 86400 = day q.moment (it.mark.moment + 86400) parts.0 in (
+      record {
+        last = by.last;
+        latest = last-operation before p ∙ by.marked;
+        authorisation = sym authors ∙ same_text-bytes it.mark.authorisation q.actor.authorisation parts.1;
+        soon = subst (λ (n : ℕ). q.moment ≤ n + 86400) moments in_time;
+      },
+      ap (λ (k : Known). k.mark.premises) by.known,
+    )
   where
     day : (m n : ℕ) → nat_le m n ≡ true → m ≤ n
     day m n h = grind (arith, nat_tests)
 
--- the hints of a repetition
-is-same : (m : Mark) (q : Put) (b : Bool) → ((is_in_a_day m q && same_text m.authorisation q.actor.authorisation) && b) ≡ true → IsSame m q
-is-same m q b h = (and_parts (is_in_a_day m q && same_text m.authorisation q.actor.authorisation) b h).0
-
-own-repeats : (t before : List Entry) (q : Put) (p : Pack) (c : Cause) → Holds t q p (known before p) Own c → IsRepeated before p q
+own-repeats : (t before : List Entry) (q : Put) (p : Pack) (c : Cause) → Holds t q p (known before p) Own c
+    → (r : IsRepeated before p q) × (r.last.put.actor.premises.bytes ≡ q.actor.premises.bytes)
 own-repeats t before q p c (inl h) = absurd (cc h.1)
-own-repeats t before q p c (inr h) = same-repeats before p q h.0 h.1 (is-same h.0.mark q (same_text h.0.mark.premises q.actor.premises) h.2)
+own-repeats t before q p c (inr h) =
+    let parts = and_parts _ (same_text h.0.mark.premises q.actor.premises) h.2 in
+    let r = repeats before p q h.0 h.1 parts.0 in
+    (r.0, ap (λ (n : Name). n.bytes) (sym r.1) ∙ same_text-bytes h.0.mark.premises q.actor.premises parts.1)
 
-house-repeats : (t before : List Entry) (q : Put) (p : Pack) (c : Cause) → Holds t q p (known before p) House c → IsRepeated before p q
+house-repeats : (t before : List Entry) (q : Put) (p : Pack) (c : Cause) → Holds t q p (known before p) House c
+    → (r : IsRepeated before p q) × (r.last.put.actor.premises.bytes ≢ q.actor.premises.bytes)
 house-repeats t before q p c (inl h) = absurd (cc h.1)
-house-repeats t before q p c (inr h) = same-repeats before p q h.0 h.1 (is-same h.0.mark q (not (same_text h.0.mark.premises q.actor.premises)) h.2)
+house-repeats t before q p c (inr h) =
+    let parts = and_parts _ (not (same_text h.0.mark.premises q.actor.premises)) h.2 in
+    let r = repeats before p q h.0 h.1 parts.0 in (
+      r.0,
+      λ same. others (same_text h.0.mark.premises q.actor.premises) parts.1
+          (same_text-from_bytes h.0.mark.premises q.actor.premises (ap (λ (n : Name). n.bytes) r.1 ∙ same)),
+    )
+  where
+    others : (b : Bool) → not b ≡ true → b ≡ true → ⊥
+    others b isnot is = cc (ap not is)
 
 pub hints-true : HintsAreTrue
 hints-true = record {

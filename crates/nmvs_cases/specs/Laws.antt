@@ -1,5 +1,5 @@
 -- The laws of hints and cases, in the words of operations (own, for Article 37(d)).
-use Rattle.std.specs.Prelude.{ℕ, ◌≡◌, ◌≤◌, ◌<◌, ◌+◌, ◌⊎◌, ◌==◌, not, Bool, true, false, List, [], ◌∷◌, ◌++◌, find, Option, Some, None}
+use Rattle.std.specs.Prelude.{ℕ, ◌≡◌, ◌≢◌, ◌≤◌, ◌<◌, ◌+◌, ◌⊎◌, ◌==◌, not, Bool, true, false, List, [], ◌∷◌, ◌++◌, find, Option, Some, None}
 use Rattle.std.specs.List.{list_all, list_any}
 use Rattle.std.specs.Option.{is_some, option_and_then}
 use Rattle.std.specs.Str.{bytes_eq}
@@ -35,11 +35,12 @@ pub record IsRepeated (before : List Entry) (p : Pack) (q : Put) : Type 0 where
   pub authorisation : last.put.actor.authorisation.bytes ≡ q.actor.authorisation.bytes
   pub soon : q.moment ≤ last.put.moment + 86400
 
--- a hint says what the trail has: that the unknown pack was uploaded, or that the house repeats its last operation
+-- a hint says what the trail has: that the unknown pack was uploaded, or that the house repeats its last operation, at the same premises
+-- or at others
 pub record HintsAreTrue : Type 0 where
   pub late : (t before : List Entry) (q : Put) (p : Pack) (c : Cause) → hint_at t before q p c ≡ Some Late → (c ≡ causes.Unknown) × (is_some (find (uploads p) t) ≡ true)
-  pub own : (t before : List Entry) (q : Put) (p : Pack) (c : Cause) → hint_at t before q p c ≡ Some Own → IsRepeated before p q
-  pub house : (t before : List Entry) (q : Put) (p : Pack) (c : Cause) → hint_at t before q p c ≡ Some House → IsRepeated before p q
+  pub own : (t before : List Entry) (q : Put) (p : Pack) (c : Cause) → hint_at t before q p c ≡ Some Own → (r : IsRepeated before p q) × (r.last.put.actor.premises.bytes ≡ q.actor.premises.bytes)
+  pub house : (t before : List Entry) (q : Put) (p : Pack) (c : Cause) → hint_at t before q p c ≡ Some House → (r : IsRepeated before p q) × (r.last.put.actor.premises.bytes ≢ q.actor.premises.bytes)
 
 -- an act on an alert: what, as which reader, by whom
 pub record Done : Type 0 where
