@@ -1,6 +1,7 @@
 //! The threads of a server: workers, and those that accept connections, write the log and carry out commands.
 ghost use Rattle.std.specs.Prelude.{◌≡◌, ◌*◌, ◌-◌, ◌^◌, min};
 ghost use Rattle.nmvs_service.specs.Bounds.{sessions_of};
+ghost use Rattle.std.specs.Thread.{IsSend};
 
 use crate::announcements::{http_at, http_on, listening_at, listening_on};
 use crate::confirming::{close_log, write_log};
@@ -218,17 +219,23 @@ fn serve_in_threads<
     let free = Mutex::new(clerks.into_iter().zip(pollers).zip(0..workers));
     let acceptor = Mutex::new(Some(acceptor));
     let (clerks, acceptor) = (&free, &acceptor);
-    thread::scope(thread::scope_env(), run.rt, |scope| {
-        let mut working = Vec::new(*run.alloc);
-        if !start_threads(scope, server, clerks, acceptor, workers, &mut working) {
-            server.pool.stop(run.rt);
-            drop(working);
-            return Err(AllocError);
-        }
-        take_commands(running, registrar, console);
-        join_all(run.rt, working, back);
-        Ok(close_log(server, back))
-    })
+    thread::scope(
+        thread::scope_env(),
+        run.rt,
+        |scope|
+            requires send { IsSend J.row × IsSend H.row }
+        {
+            let mut working = Vec::new(*run.alloc);
+            if !start_threads(scope, server, clerks, acceptor, workers, &mut working) {
+                server.pool.stop(run.rt);
+                drop(working);
+                return Err(AllocError);
+            }
+            take_commands(running, registrar, console);
+            join_all(run.rt, working, back);
+            Ok(close_log(server, back))
+        },
+    )
 }
 
 /// The threads of the workers, each with the clerk that it gives back.
