@@ -36,7 +36,7 @@ pub(crate) const CHECK: &str = "nmvs-check";
 
 /// The other commands, each with what the help says of it.
 #[rattlefmt::skip]
-const COMMANDS: [(&str, &str); 8] = [
+static COMMANDS: [(&str, &str); 8] = [
     ("list", "Lists the entries that pass all tests, oldest first; those of one moment are in the order of the export"),
     ("count", "Counts the entries that pass all tests, by what they have in common; the rows are in order of their oldest entries"),
     ("pack", "Lists the entries about a pack, its upload among them, and those that recall or withdraw its batch, oldest first; \
@@ -105,7 +105,7 @@ pub(crate) type Row = (
 
 /// The arguments of all commands, in the order of the help, in which the values of a filter are read too.
 #[rattlefmt::skip]
-pub(crate) const ROWS: [Row; 29] = [
+pub(crate) static ROWS: [Row; 29] = [
     ("files", Place::Several, (&["FILE"], ""), &[CHECK, "list", "count", "pack", "packs", "report", "page"],
         "The files of the export, one after another; standard input where there is none, and where it is -"),
     ("old", Place::Alone, (&["OLD"], ""), &["compare"], "The file of the old export; standard input where it is -"),
