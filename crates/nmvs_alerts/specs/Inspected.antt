@@ -16,13 +16,13 @@ use Rattle.nmvs_stream.specs.Sink.{Taken}
 use Rattle.nmvs_alerts.specs.declared.inspected.Inspected.{Inspected}
 use Rattle.nmvs_alerts.specs.declared.inspected.Inspected.TheVariants.{Entries, Counts, Pack, Packs, Report}
 
-abbrev pub is_authority : Reader → Bool
-is_authority Authority = true
-is_authority r = false
+abbrev pub sees_the_trail : Reader → Bool
+sees_the_trail Authority = true
+sees_the_trail r = false
 
 -- the authority alone inspects the whole trail (Articles 35(1)(i) and 39)
 abbrev pub may_inspect : Author → Bool
-may_inspect u = is_authority (author_reader u)
+may_inspect u = sees_the_trail (author_reader u)
 
 -- the rows of what is inspected of a trail, which a sink took between these two states: as the checker of exports writes them
 abbrev pub AreRows : Inspected → List Entry → Taken → Taken → Type 0
