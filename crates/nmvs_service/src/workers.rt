@@ -1,7 +1,6 @@
 //! The threads of a server: workers, and those that accept connections, write the log and carry out commands.
 ghost use Rattle.std.specs.Prelude.{◌≡◌, ◌*◌, ◌-◌, ◌^◌, min};
 ghost use Rattle.nmvs_service.specs.Bounds.{sessions_of};
-ghost use Rattle.std.specs.Thread.{IsSend};
 
 use crate::announcements::{http_at, http_on, listening_at, listening_on};
 use crate::confirming::{close_log, write_log};
@@ -24,7 +23,7 @@ use std::ops::Range;
 use std::rt::{Clock, Files};
 use std::sync::{Mutex, Wait};
 use std::thread;
-use std::thread::{JoinHandle, Scope, Threads};
+use std::thread::Threads;
 use std::time::Duration;
 use std::vec::IntoIter;
 
@@ -57,7 +56,7 @@ fn bytes_of(mebibytes: u64) -> usize
     mebibytes.saturating_mul(1_048_576) as usize
 }
 
-/// The clerks that no worker has, with their pollers and numbers. They lie outside the threads' scope, whose early end needs not
+/// The clerks that no worker has, with their pollers and numbers. They lie outside the threads' scope, whose early ends need not
 /// give them up.
 type FreeClerks<'r, J, H> = Mutex<
     Zip<Zip<IntoIter<Clerk<'r, J, H>, &'r Global>, IntoIter<Poller>>, Range<usize>>,
@@ -144,13 +143,10 @@ fn serve_by_desk<'r, R: Wait + Clock + Log, J: Naming, H: Histories + LogName, D
 /// Accepts connections for the workers. If it cannot go on, it ends the service.
 fn accept<R: Wait + Log, J: Naming, H: Histories + LogName>(
     server: &Server<'_, '_, '_, R, J, H>,
-    acceptor: &Mutex<Option<Poller>>,
+    acceptor: Poller,
 ) {
     let config = server.config;
     let (run, alloc, http) = (&config.run, *config.run.alloc, config.http.as_ref());
-    let Some(acceptor) = acceptor.lock(run.rt).take() else {
-        return;
-    };
     if accept_loop(run.rt, alloc, &server.pool, server.listener, http, acceptor).is_err() {
         server.pool.stop(run.rt);
     }
@@ -217,94 +213,48 @@ fn serve_in_threads<
     let run = &server.config.run;
     let workers = clerks.len();
     let free = Mutex::new(clerks.into_iter().zip(pollers).zip(0..workers));
-    let acceptor = Mutex::new(Some(acceptor));
-    let (clerks, acceptor) = (&free, &acceptor);
-    thread::scope(
-        thread::scope_env(),
-        run.rt,
-        |scope|
-            requires send { IsSend J.row × IsSend H.row }
-        {
-            let mut working = Vec::new(*run.alloc);
-            if !start_threads(scope, server, clerks, acceptor, workers, &mut working) {
-                server.pool.stop(run.rt);
-                drop(working);
-                return Err(AllocError);
-            }
-            take_commands(running, registrar, console);
-            join_all(run.rt, working, back);
-            Ok(close_log(server, back))
-        },
-    )
-}
-
-/// The threads of the workers, each with the clerk that it gives back.
-type Working<'r, J, H> = Vec<JoinHandle<Option<Clerk<'r, J, H>>>>;
-
-/// Starts the threads of this number of workers, the one that accepts, and the one that writes the log. It returns whether all
-/// are there: else no worker begins.
-fn start_threads<
-    's,
-    'e,
-    'r,
-    R: Threads + Wait + Clock + Log + Sync,
-    J: Naming + Send + Sync,
-    H: Histories + LogName + Send + Sync,
->(
-    scope: &Scope<'s, &'e ()>,
-    server: &'e Server<'_, 'r, '_, R, J, H>,
-    clerks: &'e FreeClerks<'r, J, H>,
-    acceptor: &'e Mutex<Option<Poller>>,
-    workers: usize,
-    working: &mut Working<'r, J, H>,
-) -> bool {
-    let run = &server.config.run;
-    let mut ready = server.ready.lock(run.rt);
-    let begun = start_workers(scope, server, clerks, workers, working)
-        && scope.spawn(move || accept(server, acceptor)).is_ok()
-        && scope.spawn(move || write_log(server)).is_ok();
-    *ready = begun;
-    begun
-}
-
-/// Starts the threads of this number of workers. It returns whether all were started.
-fn start_workers<
-    's,
-    'e,
-    'r,
-    R: Wait + Clock + Log + Sync,
-    J: Naming + Send + Sync,
-    H: Histories + LogName + Send + Sync,
->(
-    scope: &Scope<'s, &'e ()>,
-    server: &'e Server<'_, 'r, '_, R, J, H>,
-    clerks: &'e FreeClerks<'r, J, H>,
-    workers: usize,
-    working: &mut Working<'r, J, H>,
-) -> bool {
-    for _ in 0..workers {
-        let is_started = match scope.spawn(move || work(server, clerks)) {
-            Ok(worker) => working.push(worker).is_ok(),
-            Err(_) => false,
+    let clerks = &free;
+    thread::scope(thread::scope_env(), run.rt, |scope| {
+        let mut ready = server.ready.lock(run.rt);
+        let Ok(mut working) = Vec::with_capacity(*run.alloc, workers) else {
+            return Err(AllocError);
         };
-        if !is_started {
-            return false;
+        let mut begun = Ok(());
+        for _ in 0..workers {
+            begun = match scope.spawn(move || work(server, clerks)) {
+                Ok(worker) => working.push(worker).or(Err(AllocError)),
+                Err(_) => Err(AllocError),
+            };
+            if begun.is_err() {
+                break;
+            }
         }
-    }
-    true
-}
-
-/// Puts the clerks back once the workers have ended.
-fn join_all<'r, R: Threads, J: Naming, H: Histories + LogName>(
-    rt: &R,
-    workers: Working<'r, J, H>,
-    back: &mut Vec<Clerk<'r, J, H>, &'r Global>,
-) {
-    for worker in workers {
-        if let Some(clerk) = worker.join(rt) {
-            let _room_was_made = back.push(clerk);
+        if begun.is_err() {
+            drop(working);
+            return Err(AllocError);
         }
-    }
+        let Ok(accepting) = scope.spawn(move || accept(server, acceptor)) else {
+            drop(working);
+            return Err(AllocError);
+        };
+        let Ok(writing) = scope.spawn(move || write_log(server)) else {
+            server.pool.stop(run.rt);
+            drop((working, accepting));
+            return Err(AllocError);
+        };
+        *ready = true;
+        drop(ready);
+        take_commands(running, registrar, console);
+        for worker in working {
+            if let Some(clerk) = worker.join(run.rt) {
+                let _room_was_made = back.push(clerk);
+            }
+        }
+        accepting.join(run.rt);
+        let confirmed = close_log(server, back);
+        writing.join(run.rt);
+        Ok(confirmed)
+    })
 }
 
 /// Says that the workers serve, and carries out the operator's commands until these end.
