@@ -29,6 +29,7 @@ use Rattle.nmvs_inspect.specs.Reports.{rows_text}
 use Rattle.nmvs_inspect.specs.Rows.{Dated, AreTaken, list_text}
 use Rattle.nmvs_inspect.specs.Story.{status_of, story_of, story_text}
 use Rattle.nmvs_inspect.specs.declared.filter.Filter.{Filter}
+use Rattle.nmvs_inspect.specs.declared.form.Form.TheVariants.{Csv}
 use Rattle.nmvs_check.specs.declared.request.Request.{Request}
 use Rattle.nmvs_check.specs.declared.request.Request.TheVariants as request
 
@@ -44,9 +45,14 @@ codes_named t = fold (λ seen e. with_code seen (code_of e.put.question)) [] t
 abbrev pub tagged_of : List Entry → ℕ
 tagged_of t = count_by (λ e. is_some e.put.tag) t
 
+-- a line with this text and a number, if there is one
+abbrev pub number_line : List ℕ → Option ℕ → List ℕ
+number_line front None = []
+number_line front (Some n) = front ++ (decimal n ++ codes "\n")
+
 -- the line with the number of lines of version 3, if there are any
 abbrev pub third_text : ℕ → List ℕ
-third_text n = if n == 0 then [] else codes "VERSION 3 " ++ (decimal n ++ codes "\n")
+third_text n = number_line (codes "VERSION 3 ") (if n == 0 then None else Some n)
 
 -- whether a question was new, compared with the entries before it
 abbrev pub is_new : Repeat → Bool
@@ -64,8 +70,7 @@ repeated_line t = option_map (λ place. place + 1) (first_repeated_after [] t)
 
 -- the line that names it by this number
 abbrev pub repeated_text : Option ℕ → List ℕ
-repeated_text None = []
-repeated_text (Some n) = codes "REPEATED " ++ (decimal n ++ codes "\n")
+repeated_text n = number_line (codes "REPEATED ") n
 
 -- the lines with the number of lines, their number in each version, and the first line that repeats a question, if any
 abbrev pub counts_with : Imported → Option ℕ → List ℕ
@@ -75,6 +80,10 @@ counts_with it repeated =
 
 abbrev pub counts_text : Imported → List ℕ
 counts_text it = counts_with it (repeated_line it.trail)
+
+-- what is said about a product code: its whole report, or the first line of that
+abbrev pub about : List Entry → Bool → ProductCode → List ℕ
+about t whole = if whole then report_text t else product_line t
 
 -- a line for each product code
 abbrev pub products_text : List Entry → List ℕ
@@ -133,8 +142,8 @@ untaken t _ = None
 abbrev pub Tells : Imported → Request → Taken → Taken → Type 0
 Tells it request.Summary old new = Delivers old new (summary_text it)
 Tells it (request.Report c) old new = Delivers old new (report_text it.trail c)
-Tells it request.Reports old new = Delivers old new (reports_text it.trail)
-Tells it request.ReportRows old new = Delivers old new (report_rows_text it.trail)
+Tells it (request.Reports Csv) old new = Delivers old new (report_rows_text it.trail)
+Tells it (request.Reports other) old new = Delivers old new (reports_text it.trail)
 Tells it (request.Audit p) old new = Delivers old new (audit_text it.trail p)
 Tells it (request.List f form) old new = (ds : List Dated) × AreTaken f it.trail ds × Delivers old new (list_text form ds)
 Tells it (request.Count f bs form) old new = (ds : List _) × AreSingle f it.trail ds × Delivers old new (groups_text form bs.items ds)

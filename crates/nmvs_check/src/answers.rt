@@ -2,15 +2,14 @@
 ghost use Rattle.std.specs.Prelude.{◌≡◌, ◌++◌, IfOk, OnOk, string_bytes};
 ghost use Rattle.std.specs.List.{flat_map};
 ghost use Rattle.nmvs_stream.specs.Delivery.{Delivers};
-ghost use Rattle.nmvs_reports.specs.Report as told;
 ghost use Rattle.nmvs_check.specs.Answers as answers;
 
 use crate::request::Request;
 use indexmap::IndexSet;
 use nmvs_identifier::{Pack, ProductCode};
 use nmvs_inspect::{
-    AnswerFault, Filter, period_line, story_of, takes_any, write_groups, write_list, write_packs,
-    write_page, write_report_rows, write_story,
+    AnswerFault, Filter, Form, period_line, story_of, takes_any, write_groups, write_list,
+    write_packs, write_page, write_report_rows, write_story,
 };
 use nmvs_parts::{Part, PartImport};
 use nmvs_protocol::reply_text;
@@ -38,8 +37,8 @@ pub(crate) fn tell<W: Sink>(
     match request {
         Request::Summary => write(&summary(alloc, importer)?, sink),
         Request::Report(code) => write(&report(alloc, shard, code)?, sink),
-        Request::Reports => write(&reports(alloc, shard)?, sink),
-        Request::ReportRows => report_rows(alloc, shard, sink),
+        Request::Reports(Form::Csv) => report_rows(alloc, shard, sink),
+        Request::Reports(_) => write(&with_codes(alloc, shard, "", true)?, sink),
         Request::Audit(pack) => write(&audit(alloc, shard, pack)?, sink),
         Request::List(filter, form) => write_list(alloc, shard, filter, *form, sink),
         Request::Count(filter, by, form) => write_groups(alloc, shard, filter, by, *form, sink),
@@ -83,11 +82,7 @@ pub(crate) fn untaken(shard: &Shard<Global>, request: &Request) -> Option<usize>
 fn none_of(shard: &Shard<Global>, filter: &Filter) -> Option<usize>
     ensures { result ≡ answers.none_of shard.now filter.now }
 {
-    if takes_any(shard, filter) {
-        None
-    } else {
-        Some(shard.len())
-    }
+    (!takes_any(shard, filter)).then_some(shard.len())
 }
 
 /// Writes a whole text.
@@ -101,7 +96,7 @@ fn summary(alloc: Global, importer: &Importer<Shard<Global>>) -> Result<String, 
     ensures { IfOk result (λ text. string_bytes text ≡ answers.summary_text importer.now) }
 {
     let counts = counts_text(alloc, importer)?;
-    with_products(alloc, importer.shard(), &counts)
+    with_codes(alloc, importer.shard(), &counts, false)
 }
 
 fn part_summary(alloc: Global, part: Part, import: &PartImport) -> Result<String, AllocError>
@@ -110,17 +105,54 @@ fn part_summary(alloc: Global, part: Part, import: &PartImport) -> Result<String
     let (index, count, lines) = (part.index(), part.count(), import.lines);
     let counts = counts_with(alloc, &import.importer, import.repeated)?;
     let counts = format!(in alloc; "PART {index}/{count} OF {lines}\n{counts}")?;
-    with_products(alloc, import.importer.shard(), &counts)
+    with_codes(alloc, import.importer.shard(), &counts, false)
 }
 
-/// These counts, and a line for each product code.
-fn with_products(alloc: Global, shard: &Shard<Global>, counts: &str) -> Result<String, AllocError>
-    ensures { IfOk result (λ text. string_bytes text ≡ counts.now ++ answers.products_text shard.now) }
+/// A text, and then for each product code that the entries name its whole report, or the first line of that.
+fn with_codes(
+    alloc: Global,
+    shard: &Shard<Global>,
+    front: &str,
+    whole: bool,
+) -> Result<String, AllocError>
+    ensures { IfOk result (λ text. string_bytes text ≡ front.now ++ flat_map (answers.about shard.now whole) (answers.codes_named shard.now)) }
 {
-    let mut text = String::from_str(alloc, counts)?;
+    let mut text = String::from_str(alloc, front)?;
     let codes = codes_named(alloc, shard)?;
-    append_products(alloc, shard, codes.as_slice(), &mut text)?;
+    append_each(alloc, shard, codes.as_slice(), whole, &mut text)?;
     Ok(text)
+}
+
+/// Puts what is said about product codes at the end of a text.
+fn append_each(
+    alloc: Global,
+    shard: &Shard<Global>,
+    codes: &[ProductCode],
+    whole: bool,
+    text: &mut String,
+) -> Result<(), AllocError>
+    ensures { OnOk result (string_bytes text.new ≡ string_bytes text.old ++ flat_map (answers.about shard.now whole) codes.now) }
+{
+    for code in codes {
+        let told = about(alloc, shard, code, whole)?;
+        text.push_str(&told)?;
+    }
+    Ok(())
+}
+
+fn about(
+    alloc: Global,
+    shard: &Shard<Global>,
+    code: &ProductCode,
+    whole: bool,
+) -> Result<String, AllocError>
+    ensures { IfOk result (λ text. string_bytes text ≡ answers.about shard.now whole code.now) }
+{
+    if whole {
+        report(alloc, shard, code)
+    } else {
+        product_line(alloc, shard, code)
+    }
 }
 
 /// The lines with the number of lines, their number in each version, and the first line that repeats a question, if any.
@@ -142,9 +174,19 @@ fn counts_with(
     let (lines, older) = (shard.len(), importer.older());
     let tagged = tagged_of(shard);
     let newer = importer.newer().saturating_sub(tagged);
-    let third = third_text(alloc, tagged)?;
-    let repeated = repeated_text(alloc, repeated)?;
+    let third = number_line(alloc, "VERSION 3 ", (tagged > 0).then_some(tagged))?;
+    let repeated = number_line(alloc, "REPEATED ", repeated)?;
     format!(in alloc; "LAWFUL {lines}\nVERSION 1 {older}\nVERSION 2 {newer}\n{third}{repeated}")
+}
+
+/// A line with this text and a number, if there is one.
+fn number_line(alloc: Global, front: &str, number: Option<usize>) -> Result<String, AllocError>
+    ensures { IfOk result (λ text. string_bytes text ≡ answers.number_line front.now number) }
+{
+    match number {
+        Some(number) => format!(in alloc; "{front}{number}\n"),
+        None => Ok(String::new(alloc)),
+    }
 }
 
 /// The number of the line of the first entry whose question was asked before with its tag, if there is one.
@@ -156,26 +198,6 @@ fn repeated_line(shard: &Shard<Global>) -> Option<usize>
     let place = shard.first_repeated()?;
     let line = place + 1;
     Some(line)
-}
-
-/// The line that names the first line whose question was asked before with its tag, if there is one.
-fn repeated_text(alloc: Global, line: Option<usize>) -> Result<String, AllocError>
-    ensures { IfOk result (λ text. string_bytes text ≡ answers.repeated_text line) }
-{
-    let Some(line) = line else {
-        return Ok(String::new(alloc));
-    };
-    format!(in alloc; "REPEATED {line}\n")
-}
-
-/// The line with the number of lines of version 3, if there are any.
-fn third_text(alloc: Global, tagged: usize) -> Result<String, AllocError>
-    ensures { IfOk result (λ text. string_bytes text ≡ answers.third_text tagged) }
-{
-    if tagged == 0 {
-        return Ok(String::new(alloc));
-    }
-    format!(in alloc; "VERSION 3 {tagged}\n")
 }
 
 /// How many entries have a tag.
@@ -208,32 +230,6 @@ pub(crate) fn codes_named(
     Ok(codes)
 }
 
-/// Puts the lines of product codes at the end of a text.
-fn append_products(
-    alloc: Global,
-    shard: &Shard<Global>,
-    codes: &[ProductCode],
-    text: &mut String,
-) -> Result<(), AllocError>
-    ensures { OnOk result (string_bytes text.new ≡ string_bytes text.old ++ flat_map (told.product_line shard.now) codes.now) }
-{
-    for code in codes {
-        let line = product_line(alloc, shard, code)?;
-        text.push_str(&line)?;
-    }
-    Ok(())
-}
-
-/// The reports of all product codes that the entries name.
-fn reports(alloc: Global, shard: &Shard<Global>) -> Result<String, AllocError>
-    ensures { IfOk result (λ text. string_bytes text ≡ answers.reports_text shard.now) }
-{
-    let mut text = String::new(alloc);
-    let codes = codes_named(alloc, shard)?;
-    append_reports(alloc, shard, codes.as_slice(), &mut text)?;
-    Ok(text)
-}
-
 /// Writes the reports of all product codes that the entries name, as rows of CSV.
 fn report_rows<W: Sink>(
     alloc: Global,
@@ -255,22 +251,10 @@ fn page<W: Sink>(
 ) -> Result<(), AnswerFault>
     ensures { OnOk result (answers.Shows heading.now importer.now (W.taken sink.old) (W.taken sink.new)) }
 {
-    let head = head_text(alloc, importer, heading)?;
-    page_under(alloc, importer, &head, sink)
-}
-
-/// Writes the same page under its whole head.
-fn page_under<W: Sink>(
-    alloc: Global,
-    importer: &Importer<Shard<Global>>,
-    head: &str,
-    sink: &mut W,
-) -> Result<(), AnswerFault>
-    ensures { OnOk result (answers.ShowsUnder head.now importer.now (W.taken sink.old) (W.taken sink.new)) }
-{
     let shard = importer.shard();
+    let head = head_text(alloc, importer, heading)?;
     let codes = codes_named(alloc, shard)?;
-    write_page(alloc, shard, head, codes.as_slice(), sink)
+    write_page(alloc, shard, &head, codes.as_slice(), sink)
 }
 
 /// The head of a page: a heading, the period of the trail, and the counts.
@@ -283,29 +267,7 @@ fn head_text(
 {
     let period = period_line(alloc, importer.shard())?;
     let counts = counts_text(alloc, importer)?;
-    joined(alloc, heading, &period, &counts)
-}
-
-fn joined(alloc: Global, heading: &str, period: &str, counts: &str) -> Result<String, AllocError>
-    ensures { IfOk result (λ text. string_bytes text ≡ heading.now ++ (period.now ++ counts.now)) }
-{
     format!(in alloc; "{heading}{period}{counts}")
-}
-
-/// Puts the reports of product codes at the end of a text.
-fn append_reports(
-    alloc: Global,
-    shard: &Shard<Global>,
-    codes: &[ProductCode],
-    text: &mut String,
-) -> Result<(), AllocError>
-    ensures { OnOk result (string_bytes text.new ≡ string_bytes text.old ++ flat_map (told.report_text shard.now) codes.now) }
-{
-    for code in codes {
-        let told = report(alloc, shard, code)?;
-        text.push_str(&told)?;
-    }
-    Ok(())
 }
 
 fn audit(alloc: Global, shard: &Shard<Global>, pack: &Pack) -> Result<String, AllocError>

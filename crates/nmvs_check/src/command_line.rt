@@ -77,9 +77,9 @@ const DATE: Value = (&["DATE"], "date as 2026-01-31");
 
 const NAME: Value = (&["NAME"], "name");
 
-const CODE: Value = (&["CODE"], "product code");
+pub(crate) const CODE: Value = (&["CODE"], "product code");
 
-const SERIAL: Value = (&["SERIAL"], "serial number");
+pub(crate) const SERIAL: Value = (&["SERIAL"], "serial number");
 
 const ALERT: Value = (&["NAME"], "name of an alert, as 09506000134352-17");
 
@@ -153,20 +153,10 @@ pub(crate) fn command<'a>(alloc: Global) -> Result<Command<'a>, AllocError> {
         .no_binary_name(true);
     let mut command = with_arguments(alloc, command, CHECK)?;
     for (name, about) in &COMMANDS {
-        command = with_subcommand(alloc, command, name, about)?;
+        let subcommand = Command::new(alloc, name).about(about);
+        command = command.subcommand(with_arguments(alloc, subcommand, name)?)?;
     }
     Ok(command)
-}
-
-/// A command with the subcommand of this name.
-fn with_subcommand<'a>(
-    alloc: Global,
-    command: Command<'a>,
-    name: &'a str,
-    about: &'a str,
-) -> Result<Command<'a>, AllocError> {
-    let subcommand = Command::new(alloc, name).about(about);
-    command.subcommand(with_arguments(alloc, subcommand, name)?)
 }
 
 /// A command with the arguments that the one of this name takes.
@@ -202,25 +192,25 @@ fn argument<'a>(alloc: Global, row: &Row) -> Result<Arg<'a>, AllocError> {
     }
 }
 
-/// The refusal of a text that is no such value.
-pub(crate) fn refused(alloc: Global, text: &str, value: Value) -> OptionFault {
-    let (_, wanted) = value;
-    match format!(in alloc; "error: '{text}' is no {wanted}\n") {
+/// The refusal with this text, if there is memory for it.
+pub(crate) fn refusal(text: Result<String, AllocError>) -> OptionFault {
+    match text {
         Ok(text) => OptionFault::Refused(text),
         Err(AllocError) => OptionFault::Memory,
     }
 }
 
+/// The refusal of a text that is no such value.
+pub(crate) fn refused(alloc: Global, text: &str, value: Value) -> OptionFault {
+    let (_, wanted) = value;
+    refusal(format!(in alloc; "error: '{text}' is no {wanted}\n"))
+}
+
 /// The fault that the parser found.
 pub(crate) fn fault_of(alloc: Global, error: &Error) -> OptionFault {
-    if let ErrorKind::OutOfMemory = error.kind() {
-        return OptionFault::Memory;
-    }
-    let Ok(text) = format!(in alloc; "{error}") else {
-        return OptionFault::Memory;
-    };
-    match error.kind() {
-        ErrorKind::DisplayHelp | ErrorKind::DisplayVersion => OptionFault::Help(text),
-        _ => OptionFault::Refused(text),
+    match (error.kind(), format!(in alloc; "{error}")) {
+        (ErrorKind::OutOfMemory, _) => OptionFault::Memory,
+        (ErrorKind::DisplayHelp | ErrorKind::DisplayVersion, Ok(text)) => OptionFault::Help(text),
+        (_, text) => refusal(text),
     }
 }

@@ -118,11 +118,9 @@ fn on_text(alloc: Global, old: &Shard<Global>, new: &Shard<Global>) -> Result<St
 fn departure_text(alloc: Global, departure: &Departure) -> Result<String, AllocError>
     ensures { IfOk result (λ text. string_bytes text ≡ spec.departure_text departure.now) }
 {
-    let number = departure.number;
     let code = departure.entry.put.question.code();
-    let code = code.text();
     let old = entry_line(&departure.entry);
-    let old = old.as_str();
+    let (number, code, old) = (departure.number, code.text(), old.as_str());
     match &departure.found {
         Some(found) => {
             let new = entry_line(found);

@@ -1,10 +1,13 @@
 //! Files that are read one after another. Each is compared with its stored digest, in the file next to it.
+use crate::faults::{fail, fail_file};
+use crate::status::TROUBLE;
 use nmvs_digest::{DigestFault, Digested, digest_line, file_name, stored_digest};
 use nmvs_stream::{Device, Source};
 use std::alloc::{AllocError, Global};
 use std::fs::{self, File, Metadata};
 use std::io::{self, ErrorKind, IsTerminal, Read};
 use std::os::unix::fs::MetadataExt;
+use std::process::ExitCode;
 use std::rt::{HostRuntime, Stdin};
 
 /// Something that is read.
@@ -25,49 +28,40 @@ impl Read for Handle {
 
 /// A file.
 #[derive(Drop)]
-struct Input {
-    path: String,
+struct Input<'a> {
+    path: &'a str,
     source: Digested<Device<Handle>>,
 }
 
 /// The bytes of files, one after another. A read fails at the end of a file whose digest is not the stored one.
 #[derive(Drop)]
-pub(crate) struct Inputs {
+pub(crate) struct Inputs<'a> {
     /// Those that were not read to their end, the next one last.
-    inputs: Vec<Input>,
-    /// The file whose digest is not the stored one.
-    differing: Option<String>,
+    inputs: Vec<Input<'a>>,
+    /// The file whose digest is not the stored one, if a read failed for that.
+    pub differing: Option<&'a str>,
 }
 
-/// The fault of files that are not read.
-#[derive(Drop)]
-pub(crate) enum InputFault {
-    Memory,
-    /// The file at this path cannot be opened.
-    Closed(String),
-    /// The stored digest of the file at this path cannot be read, or is none.
-    Digest(String, DigestFault),
-}
-
-impl From<AllocError> for InputFault {
-    fn from(_: AllocError) -> InputFault {
-        InputFault::Memory
-    }
-}
-
-impl Inputs {
+impl<'a> Inputs<'a> {
     /// Opens files. The path `-` is standard input, and so is an empty list.
     ///
     /// # Errors
     ///
-    /// A file cannot be opened, its stored digest cannot be read or is none, or there is no memory for the list.
+    /// A file cannot be opened, its stored digest cannot be read or is none, or there is no memory for the list. It prints
+    /// which, and gives the status.
     pub(crate) fn open(
         rt: &HostRuntime,
         alloc: Global,
-        paths: &[String],
-    ) -> Result<Inputs, InputFault> {
+        paths: &[&'a str],
+    ) -> Result<Inputs<'a>, ExitCode> {
         let mut inputs = Vec::new(alloc);
-        open_each(rt, alloc, paths, &mut inputs)?;
+        if paths.is_empty() {
+            push_input(rt, alloc, "-", &mut inputs)?;
+        }
+        // The last one first.
+        for path in paths.iter().rev() {
+            push_input(rt, alloc, path, &mut inputs)?;
+        }
         Ok(Inputs {
             inputs,
             differing: None,
@@ -77,19 +71,17 @@ impl Inputs {
     /// A line for each file: its name, and the digest that it has to have.
     pub(crate) fn heading(&self, alloc: Global) -> Result<String, AllocError> {
         let mut text = String::new(alloc);
-        append_headings(alloc, &self.inputs, &mut text)?;
+        for input in self.inputs.iter().rev() {
+            let line = heading_line(alloc, input.path, &input.source.expected())?;
+            text.push_str(&line)?;
+        }
         Ok(text)
-    }
-
-    /// The path of the file whose digest is not the stored one, if a read failed for that.
-    pub(crate) fn differing(&self) -> Option<&String> {
-        self.differing.as_ref()
     }
 
     /// Whether this is one of the files that are still to be read, under whatever name.
     pub(crate) fn have(&self, rt: &HostRuntime, found: &Metadata) -> bool {
         for input in self.inputs.iter() {
-            if let Ok(other) = fs::metadata(rt, &input.path) {
+            if let Ok(other) = fs::metadata(rt, input.path) {
                 if other.dev() == found.dev() && other.ino() == found.ino() {
                     return true;
                 }
@@ -97,76 +89,59 @@ impl Inputs {
         }
         false
     }
+
+    /// Compares the digest of the file whose end was read with the stored one, and goes on to the next file.
+    fn end(&mut self) -> io::Result<()> {
+        let Some(Input { path, source }) = self.inputs.pop() else {
+            return Ok(());
+        };
+        if source.agrees() {
+            return Ok(());
+        }
+        self.differing = Some(path);
+        Err(io::Error::from(ErrorKind::InvalidData))
+    }
 }
 
-/// Opens files, the last one first.
-fn open_each(
+fn push_input<'a>(
     rt: &HostRuntime,
     alloc: Global,
-    paths: &[String],
-    inputs: &mut Vec<Input>,
-) -> Result<(), InputFault> {
-    if paths.is_empty() {
-        return push_opened(rt, alloc, "-", inputs);
-    }
-    for path in paths.iter().rev() {
-        push_opened(rt, alloc, path, inputs)?;
-    }
-    Ok(())
-}
-
-fn push_opened(
-    rt: &HostRuntime,
-    alloc: Global,
-    path: &str,
-    inputs: &mut Vec<Input>,
-) -> Result<(), InputFault> {
-    let input = open_input(rt, alloc, path)?;
-    match inputs.push(input) {
+    path: &'a str,
+    inputs: &mut Vec<Input<'a>>,
+) -> Result<(), ExitCode> {
+    let source = open_source(rt, alloc, path)?;
+    match inputs.push(Input { path, source }) {
         Ok(()) => Ok(()),
-        Err(_) => Err(InputFault::Memory),
+        Err(_) => Err(fail(rt, "out of memory")),
     }
 }
 
-fn append_headings(alloc: Global, inputs: &[Input], text: &mut String) -> Result<(), AllocError> {
-    for input in inputs.iter().rev() {
-        let line = heading_line(alloc, &input.path, &input.source.expected())?;
-        text.push_str(&line)?;
-    }
-    Ok(())
-}
-
-fn heading_line(
+fn open_source(
+    rt: &HostRuntime,
     alloc: Global,
     path: &str,
-    stored: &Option<[u8; 32]>,
-) -> Result<String, AllocError> {
-    match stored {
-        Some(sum) => digest_line(alloc, sum, file_name(path)),
-        None => format!(in alloc; "{path}, without a digest\n"),
-    }
-}
-
-fn open_input(rt: &HostRuntime, alloc: Global, path: &str) -> Result<Input, InputFault> {
-    let named = String::from_str(alloc, path)?;
+) -> Result<Digested<Device<Handle>>, ExitCode> {
     if path == "-" {
-        return Ok(Input {
-            path: named,
-            source: Digested::new(Device::new(Handle::Standard(standard_input(rt))), None),
-        });
+        let input = Handle::Standard(standard_input(rt));
+        return Ok(Digested::new(Device::new(input), None));
     }
     let stored = match stored_digest(rt, alloc, path) {
         Ok(stored) => stored,
-        Err(DigestFault::Memory) => return Err(InputFault::Memory),
-        Err(fault) => return Err(InputFault::Digest(named, fault)),
+        Err(fault) => return Err(fail_stored(rt, path, fault)),
     };
     match fs::open(rt, path) {
-        Ok(file) => Ok(Input {
-            path: named,
-            source: Digested::new(Device::new(Handle::File(file)), stored),
-        }),
-        Err(_) => Err(InputFault::Closed(named)),
+        Ok(file) => Ok(Digested::new(Device::new(Handle::File(file)), stored)),
+        Err(_) => Err(fail_file(rt, path, "cannot be opened")),
     }
+}
+
+/// Prints why the stored digest of a file is not known, and returns the status of trouble.
+fn fail_stored(rt: &HostRuntime, path: &str, fault: DigestFault) -> ExitCode {
+    if let DigestFault::Memory = fault {
+        return fail(rt, "out of memory");
+    }
+    let _ = eprintln!(rt; "{path}.sha256: {fault}");
+    ExitCode::from(TROUBLE)
 }
 
 /// Standard input. If it is a terminal, a line on standard error says that an export is read from it.
@@ -180,7 +155,18 @@ fn standard_input(rt: &HostRuntime) -> Stdin {
     input
 }
 
-impl Read for Inputs {
+fn heading_line(
+    alloc: Global,
+    path: &str,
+    stored: &Option<[u8; 32]>,
+) -> Result<String, AllocError> {
+    match stored {
+        Some(sum) => digest_line(alloc, sum, file_name(path)),
+        None => format!(in alloc; "{path}, without a digest\n"),
+    }
+}
+
+impl Read for Inputs<'_> {
     fn read(&mut self, buffer: &mut [u8]) -> io::Result<usize> {
         if buffer.is_empty() {
             return Ok(0);
@@ -196,19 +182,5 @@ impl Read for Inputs {
             }
         }
         Ok(0)
-    }
-}
-
-impl Inputs {
-    /// Compares the digest of the file whose end was read with the stored one, and goes on to the next file.
-    fn end(&mut self) -> io::Result<()> {
-        let Some(Input { path, source }) = self.inputs.pop() else {
-            return Ok(());
-        };
-        if source.agrees() {
-            return Ok(());
-        }
-        self.differing = Some(path);
-        Err(io::Error::from(ErrorKind::InvalidData))
     }
 }

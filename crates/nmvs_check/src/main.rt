@@ -4,6 +4,7 @@
 mod answers;
 mod command_line;
 mod comparison;
+mod faults;
 mod inputs;
 mod inspect_fault;
 mod inspection;
@@ -15,51 +16,38 @@ mod request;
 mod scans;
 mod status;
 
-use crate::command_line::OptionFault;
 use crate::comparison::{CompareFault, compare};
-use crate::inputs::{InputFault, Inputs};
-use crate::inspect_fault::{InspectFault, fault_text};
+use crate::faults::{fail, fail_answer, fail_export, fail_file, fail_line};
+use crate::inputs::Inputs;
+use crate::inspect_fault::InspectFault;
 use crate::inspection::{inspect, inspect_part};
 use crate::options::{Asked, Options, read_options};
 use crate::output::Output;
 use crate::page_file::{PageFault, write_page};
 use crate::scans::answer_scans;
-use crate::status::{status_of, status_of_answer};
+use crate::status::status_of_answer;
 use nmvs_elements::National;
-use nmvs_inspect::AnswerFault;
-use nmvs_record::Finding;
 use nmvs_shard::HashKey;
 use nmvs_stream::Device;
-use std::alloc::{AllocError, Global};
+use std::alloc::Global;
 use std::process::ExitCode;
 use std::rt::Env;
-use std::{env, io, slice};
+use std::{env, io};
 
 /// The most reads of an export, or of lines of scans.
 const READS: u64 = 1_000_000_000;
-
-/// The status of an export whose digest is not the stored one.
-const BAD: u8 = 1;
-
-/// The status if nothing is known of the input, or not all of the answer was written.
-const TROUBLE: u8 = 2;
 
 fn main(rt: HostRuntime) -> ExitCode {
     let alloc = rt.alloc();
     let Ok(words) = words(&rt) else {
         return fail(&rt, "out of memory");
     };
-    match read_options(alloc, &words) {
-        Ok(asked) => answer(&rt, alloc, &asked),
-        Err(OptionFault::Help(text)) => {
-            let _ = print!(rt; "{text}");
-            ExitCode::SUCCESS
-        }
-        Err(OptionFault::Refused(text)) => {
-            let _ = eprint!(rt; "{text}");
-            ExitCode::from(TROUBLE)
-        }
-        Err(OptionFault::Memory) => fail(&rt, "out of memory"),
+    let read = read_options(alloc, &words);
+    match &read {
+        Ok(asked) => match answer(&rt, alloc, asked) {
+            Ok(status) | Err(status) => status,
+        },
+        Err(fault) => fail_line(&rt, fault),
     }
 }
 
@@ -69,167 +57,114 @@ fn words<R: Env + AllocGlobal>(rt: &R) -> io::Result<Vec<String>> {
     Ok(words)
 }
 
-/// Does what is asked, and returns the status.
-fn answer(rt: &HostRuntime, alloc: Global, asked: &Asked) -> ExitCode {
+/// Does what is asked, and returns the status, also if a fault was printed.
+fn answer(rt: &HostRuntime, alloc: Global, asked: &Asked<'_>) -> Result<ExitCode, ExitCode> {
     let Ok(key) = HashKey::draw(rt) else {
-        return fail(rt, "no random bytes");
+        return Err(fail(rt, "no random bytes"));
     };
     match asked {
         Asked::Inspection(options) => check(rt, alloc, key, options),
         Asked::Page { path, files } => page(rt, alloc, key, path, files),
         Asked::Comparison { old, new } => compare_files(rt, alloc, key, old, new),
-        Asked::Scans(nation) => scan(rt, alloc, *nation),
+        Asked::Scans(nation) => Ok(scan(rt, alloc, *nation)),
     }
 }
 
-/// Checks the export that the options name, prints the answer or the fault, and returns the status.
-fn check(rt: &HostRuntime, alloc: Global, key: HashKey, options: &Options) -> ExitCode {
-    let mut inputs = match opened(rt, alloc, &options.files) {
-        Ok(inputs) => inputs,
-        Err(status) => return status,
-    };
-    let mut output = Output::new(rt.stdout());
-    let inspected = {
-        let (mut source, mut sink) = (Device::new(&mut inputs), Device::new(&mut output));
-        let asked = &options.request;
-        match options.part {
-            None => inspect(alloc, key, &mut source, &mut sink, asked, READS),
-            Some(part) => inspect_part(alloc, key, part, &mut source, &mut sink, asked, READS),
-        }
-    };
-    match inspected {
-        Ok(None) => ExitCode::SUCCESS,
-        Ok(Some(entries)) => {
-            let _ = eprintln!(rt; "0 of {entries} entries");
-            ExitCode::SUCCESS
-        }
-        Err(InspectFault::Answer(fault)) => fail_answer(rt, &output, fault),
-        Err(fault) => fail_at(rt, alloc, &inputs, &fault),
-    }
-}
-
-/// Writes a page of the export in these files, or prints the fault, and returns the status.
-fn page(rt: &HostRuntime, alloc: Global, key: HashKey, path: &str, files: &[String]) -> ExitCode {
-    let mut inputs = match opened(rt, alloc, files) {
-        Ok(inputs) => inputs,
-        Err(status) => return status,
-    };
-    match write_page(rt, alloc, key, &mut inputs, path, READS) {
-        Ok(()) => ExitCode::SUCCESS,
-        Err(PageFault::Inspect(fault)) => fail_at(rt, alloc, &inputs, &fault),
-        Err(PageFault::File) => {
-            let _ = eprintln!(rt; "the file {path} cannot be written");
-            ExitCode::from(TROUBLE)
-        }
-        Err(PageFault::Export) => {
-            let _ = eprintln!(rt; "the file {path} is one of the exports");
-            ExitCode::from(TROUBLE)
-        }
-        Err(PageFault::NoPage) => {
-            let _ = eprintln!(rt; "the file {path} is there, and is no page");
-            ExitCode::from(TROUBLE)
-        }
-    }
-}
-
-/// Prints why an answer was not written to its end, unless its reader left, and returns the status.
-fn fail_answer(rt: &HostRuntime, output: &Output, fault: AnswerFault) -> ExitCode {
-    if !output.is_left() {
-        let _ = eprintln!(rt; "{fault}");
-    }
-    ExitCode::from(TROUBLE)
-}
-
-/// Prints the fault of an export, and returns its status.
-fn fail_at(rt: &HostRuntime, alloc: Global, inputs: &Inputs, fault: &InspectFault) -> ExitCode {
-    if let Some(path) = inputs.differing() {
-        return fail_digest(rt, path);
-    }
-    match fault_text(alloc, fault) {
-        Ok(text) => {
-            let _ = eprintln!(rt; "{text}");
-            ExitCode::from(status_of(fault))
-        }
-        Err(AllocError) => fail(rt, "out of memory"),
-    }
-}
-
-/// Compares the exports in two files, prints the answer or the fault, and returns the status.
-fn compare_files(
+/// Checks the export that the options name, and prints the answer or the fault.
+fn check(
     rt: &HostRuntime,
     alloc: Global,
     key: HashKey,
-    old: &String,
-    new: &String,
-) -> ExitCode {
-    let mut before = match opened(rt, alloc, slice::from_ref(old)) {
-        Ok(inputs) => inputs,
-        Err(status) => return status,
-    };
-    let mut after = match opened(rt, alloc, slice::from_ref(new)) {
-        Ok(inputs) => inputs,
-        Err(status) => return status,
-    };
-    let mut output = Output::new(rt.stdout());
-    let compared = {
-        let (mut old, mut new) = (Device::new(&mut before), Device::new(&mut after));
-        let mut sink = Device::new(&mut output);
-        compare(alloc, key, &mut old, &mut new, &mut sink, READS)
-    };
-    match compared {
-        Ok(goes_on) => ExitCode::from(status_of_answer(goes_on)),
-        Err(CompareFault::Old(finding)) => fail_of(rt, alloc, old, &before, finding),
-        Err(CompareFault::New(finding)) => fail_of(rt, alloc, new, &after, finding),
-        Err(CompareFault::Answer(fault)) => fail_answer(rt, &output, fault),
+    options: &Options<'_>,
+) -> Result<ExitCode, ExitCode> {
+    let mut inputs = Inputs::open(rt, alloc, &options.files)?;
+    let mut output = standard_output(rt);
+    match inspected(alloc, key, options, &mut inputs, &mut output) {
+        Ok(None) => Ok(ExitCode::SUCCESS),
+        Ok(Some(entries)) => {
+            let _ = eprintln!(rt; "0 of {entries} entries");
+            Ok(ExitCode::SUCCESS)
+        }
+        Err(InspectFault::Answer(fault)) => Err(fail_answer(rt, &output, fault)),
+        Err(fault) => Err(fail_export(rt, alloc, inputs.differing, None, &fault)),
     }
 }
 
-/// Opens the files of an export. If one cannot be opened, it prints the fault and returns the status.
-fn opened(rt: &HostRuntime, alloc: Global, paths: &[String]) -> Result<Inputs, ExitCode> {
-    match Inputs::open(rt, alloc, paths) {
-        Ok(inputs) => Ok(inputs),
-        Err(InputFault::Closed(path)) => {
-            let _ = eprintln!(rt; "the file {path} cannot be opened");
-            Err(ExitCode::from(TROUBLE))
-        }
-        Err(InputFault::Digest(path, fault)) => {
-            let _ = eprintln!(rt; "{path}.sha256: {fault}");
-            Err(ExitCode::from(TROUBLE))
-        }
-        Err(InputFault::Memory) => Err(fail(rt, "out of memory")),
+fn inspected(
+    alloc: Global,
+    key: HashKey,
+    options: &Options<'_>,
+    inputs: &mut Inputs<'_>,
+    output: &mut Output,
+) -> Result<Option<usize>, InspectFault> {
+    let (mut source, mut sink) = (Device::new(inputs), Device::new(output));
+    let asked = &options.request;
+    match options.part {
+        None => inspect(alloc, key, &mut source, &mut sink, asked, READS),
+        Some(part) => inspect_part(alloc, key, part, &mut source, &mut sink, asked, READS),
     }
 }
 
-/// Prints that the digest of a file is not the stored one, and returns the status of this.
-fn fail_digest(rt: &HostRuntime, path: &str) -> ExitCode {
-    let _ = eprintln!(rt; "the digest of {path} is not the one in {path}.sha256");
-    ExitCode::from(BAD)
-}
-
-/// Prints the fault of the export in a file, and returns its status.
-fn fail_of(
+/// Writes a page of the export in these files, or prints the fault.
+fn page(
     rt: &HostRuntime,
     alloc: Global,
+    key: HashKey,
     path: &str,
-    inputs: &Inputs,
-    finding: Finding,
-) -> ExitCode {
-    if inputs.differing().is_some() {
-        return fail_digest(rt, path);
-    }
-    let fault = InspectFault::Found(finding);
-    match fault_text(alloc, &fault) {
-        Ok(text) => {
-            let _ = eprintln!(rt; "{path}: {text}");
-            ExitCode::from(status_of(&fault))
+    files: &[&str],
+) -> Result<ExitCode, ExitCode> {
+    let mut inputs = Inputs::open(rt, alloc, files)?;
+    match write_page(rt, alloc, key, &mut inputs, path, READS) {
+        Ok(()) => Ok(ExitCode::SUCCESS),
+        Err(PageFault::Unwritten) => Err(fail_file(rt, path, "cannot be written")),
+        Err(PageFault::Export) => Err(fail_file(rt, path, "is one of the exports")),
+        Err(PageFault::NoPage) => Err(fail_file(rt, path, "is there, and is no page")),
+        Err(PageFault::Inspect(fault)) => {
+            Err(fail_export(rt, alloc, inputs.differing, None, &fault))
         }
-        Err(AllocError) => fail(rt, "out of memory"),
     }
+}
+
+/// Compares the exports in two files, and prints the answer or the fault.
+fn compare_files<'a>(
+    rt: &HostRuntime,
+    alloc: Global,
+    key: HashKey,
+    old: &'a str,
+    new: &'a str,
+) -> Result<ExitCode, ExitCode> {
+    let mut before = Inputs::open(rt, alloc, &[old])?;
+    let mut after = Inputs::open(rt, alloc, &[new])?;
+    let mut output = standard_output(rt);
+    match compared(alloc, key, &mut before, &mut after, &mut output) {
+        Ok(goes_on) => Ok(ExitCode::from(status_of_answer(goes_on))),
+        Err(CompareFault::Answer(fault)) => Err(fail_answer(rt, &output, fault)),
+        Err(CompareFault::Old(finding)) => {
+            let fault = InspectFault::Found(finding);
+            Err(fail_export(rt, alloc, before.differing, Some(old), &fault))
+        }
+        Err(CompareFault::New(finding)) => {
+            let fault = InspectFault::Found(finding);
+            Err(fail_export(rt, alloc, after.differing, Some(new), &fault))
+        }
+    }
+}
+
+fn compared<'i, 'a>(
+    alloc: Global,
+    key: HashKey,
+    before: &'i mut Inputs<'a>,
+    after: &'i mut Inputs<'a>,
+    output: &mut Output,
+) -> Result<bool, CompareFault> {
+    let (mut old, mut new) = (Device::new(before), Device::new(after));
+    let mut sink = Device::new(output);
+    compare(alloc, key, &mut old, &mut new, &mut sink, READS)
 }
 
 /// Reads lines of scans on standard input, writes a row for each, and returns the status.
 fn scan(rt: &HostRuntime, alloc: Global, nation: Option<National>) -> ExitCode {
-    let mut output = Output::new(rt.stdout());
+    let mut output = standard_output(rt);
     let answered = {
         let (mut source, mut sink) = (Device::new(rt.stdin()), Device::new(&mut output));
         answer_scans(alloc, nation, &mut source, &mut sink, READS)
@@ -241,8 +176,9 @@ fn scan(rt: &HostRuntime, alloc: Global, nation: Option<National>) -> ExitCode {
     }
 }
 
-/// Prints a fault, and returns the status of trouble.
-fn fail(rt: &HostRuntime, fault: &str) -> ExitCode {
-    let _ = eprintln!(rt; "{fault}");
-    ExitCode::from(TROUBLE)
+fn standard_output(rt: &HostRuntime) -> Output {
+    Output {
+        inner: rt.stdout(),
+        is_left: false,
+    }
 }

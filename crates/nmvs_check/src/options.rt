@@ -1,5 +1,8 @@
 //! The task that a command line asks for.
-use crate::command_line::{BY, CHECK, NATION, OptionFault, PART, ROWS, command, fault_of, refused};
+use crate::command_line::{
+    BY, CHECK, CODE, NATION, OptionFault, PART, ROWS, SERIAL, Value, command, fault_of, refusal,
+    refused,
+};
 use crate::request::Request;
 use clap::ArgMatches;
 use nmvs_elements::National;
@@ -9,33 +12,26 @@ use nmvs_parts::Part;
 use nmvs_reports::AlertName;
 use nmvs_words::{QuestionKind, ReplyKind, role_named};
 use std::alloc::{AllocError, Global};
+use std::fmt::Display;
 
 /// The task that a command line asks for (own).
 #[derive(Drop)]
-pub(crate) enum Asked {
+pub(crate) enum Asked<'a> {
     /// To inspect an export.
-    Inspection(Options),
+    Inspection(Options<'a>),
     /// To write a page for a browser to the file of this path, of the export in these files.
-    Page {
-        path: String,
-        files: Vec<String>,
-    },
-    /// To compare two exports.
-    Comparison {
-        /// The path of the old one; `-` is standard input.
-        old: String,
-        /// That of the new one.
-        new: String,
-    },
+    Page { path: &'a str, files: Vec<&'a str> },
+    /// To compare two exports, by their paths; `-` is standard input.
+    Comparison { old: &'a str, new: &'a str },
     /// To read lines of scans, with the national number of this nation.
     Scans(Option<National>),
 }
 
 /// A command line that was taken, and asks for an inspection (own).
 #[derive(Drop)]
-pub(crate) struct Options {
+pub(crate) struct Options<'a> {
     /// Paths of the files of the export, one after another. The path `-` is standard input, and so is an empty list.
-    pub files: Vec<String>,
+    pub files: Vec<&'a str>,
     /// The part of the export that is inspected; None is the whole.
     pub part: Option<Part>,
     pub request: Request,
@@ -46,58 +42,65 @@ pub(crate) struct Options {
 /// # Errors
 ///
 /// The words are no command line, or ask for help or the version, or there is no memory.
-pub(crate) fn read_options(alloc: Global, words: &[String]) -> Result<Asked, OptionFault> {
+pub(crate) fn read_options<'a>(
+    alloc: Global,
+    words: &'a [String],
+) -> Result<Asked<'a>, OptionFault> {
     match command(alloc)?.try_get_matches_from(words) {
         Ok(matches) => asked_of(alloc, &matches),
         Err(error) => Err(fault_of(alloc, &error)),
     }
 }
 
-fn asked_of(alloc: Global, matches: &ArgMatches<'_>) -> Result<Asked, OptionFault> {
+fn asked_of<'a>(alloc: Global, matches: &ArgMatches<'a>) -> Result<Asked<'a>, OptionFault> {
     let (command, asked) = matches.subcommand().unwrap_or((CHECK, matches));
     match command {
         "compare" => comparison_of(alloc, asked),
-        "page" => page_of(alloc, asked),
-        "scan" => Ok(Asked::Scans(nation_of(alloc, asked)?)),
-        _ => Ok(Asked::Inspection(Options {
-            request: request_of(alloc, command, asked)?,
+        "page" => Ok(Asked::Page {
+            path: text_of(asked, "output"),
             files: files_of(alloc, asked)?,
-            part: part_in(alloc, matches)?,
-        })),
+        }),
+        "scan" => Ok(Asked::Scans(nation_of(alloc, asked)?)),
+        _ => {
+            let request = request_of(alloc, command, asked)?;
+            let part = part_in(alloc, matches)?;
+            let files = files_of(alloc, asked)?;
+            Ok(Asked::Inspection(Options {
+                files,
+                part,
+                request,
+            }))
+        }
     }
 }
 
-fn comparison_of(alloc: Global, asked: &ArgMatches<'_>) -> Result<Asked, OptionFault> {
-    match (asked.get_str("old"), asked.get_str("new")) {
-        (Some("-"), Some("-")) => Err(OptionFault::Refused(String::from_str(
+fn comparison_of<'a>(alloc: Global, asked: &ArgMatches<'a>) -> Result<Asked<'a>, OptionFault> {
+    match (text_of(asked, "old"), text_of(asked, "new")) {
+        ("-", "-") => Err(refusal(String::from_str(
             alloc,
             "error: only one of two exports can be standard input\n",
-        )?)),
-        (Some(old), Some(new)) => Ok(Asked::Comparison {
-            old: String::from_str(alloc, old)?,
-            new: String::from_str(alloc, new)?,
-        }),
-        _ => Err(unreadable(alloc)),
+        ))),
+        (old, new) => Ok(Asked::Comparison { old, new }),
     }
 }
 
-fn page_of(alloc: Global, asked: &ArgMatches<'_>) -> Result<Asked, OptionFault> {
-    let Some(path) = asked.get_str("output") else {
-        return Err(unreadable(alloc));
-    };
-    let files = files_of(alloc, asked)?;
-    let path = String::from_str(alloc, path)?;
-    Ok(Asked::Page { path, files })
+/// The text of an argument that a line always has.
+fn text_of<'a>(asked: &ArgMatches<'a>, name: &str) -> &'a str {
+    asked.get_str(name).unwrap_or("")
+}
+
+fn files_of<'a>(alloc: Global, asked: &ArgMatches<'a>) -> Result<Vec<&'a str>, AllocError> {
+    match asked.get_strs("files") {
+        Some(paths) => paths.to_vec(alloc),
+        None => Ok(Vec::new(alloc)),
+    }
 }
 
 fn nation_of(alloc: Global, asked: &ArgMatches<'_>) -> Result<Option<National>, OptionFault> {
     let Some(text) = asked.get_str("national") else {
         return Ok(None);
     };
-    match read_nation(text) {
-        Some(nation) => Ok(Some(nation)),
-        None => Err(refused(alloc, text, NATION)),
-    }
+    Ok(Some(wanted(alloc, text, NATION, read_nation(text))?))
 }
 
 fn read_nation(text: &str) -> Option<National> {
@@ -110,10 +113,10 @@ fn part_in(alloc: Global, matches: &ArgMatches<'_>) -> Result<Option<Part>, Opti
     match (matches.subcommand(), before) {
         (None, part) => Ok(part),
         (Some((_, asked)), None) => part_of(alloc, asked),
-        (Some(_), Some(_)) => {
-            let wanted = "error: '--part' is wanted behind the command\n";
-            Err(OptionFault::Refused(String::from_str(alloc, wanted)?))
-        }
+        (Some(_), Some(_)) => Err(refusal(String::from_str(
+            alloc,
+            "error: '--part' is wanted behind the command\n",
+        ))),
     }
 }
 
@@ -121,10 +124,7 @@ fn part_of(alloc: Global, asked: &ArgMatches<'_>) -> Result<Option<Part>, Option
     let Some(text) = asked.get_str("part") else {
         return Ok(None);
     };
-    match read_part(text) {
-        Some(part) => Ok(Some(part)),
-        None => Err(refused(alloc, text, PART)),
-    }
+    Ok(Some(wanted(alloc, text, PART, read_part(text))?))
 }
 
 fn read_part(text: &str) -> Option<Part> {
@@ -132,12 +132,17 @@ fn read_part(text: &str) -> Option<Part> {
     Part::new(index.parse().ok()?, count.parse().ok()?)
 }
 
-fn files_of(alloc: Global, asked: &ArgMatches<'_>) -> Result<Vec<String>, AllocError> {
-    let mut paths = Vec::new(alloc);
-    for path in asked.get_strs("files").unwrap_or(&[]) {
-        paths.push(String::from_str(alloc, path)?)?;
+/// The value that was read of a text, or the refusal of the text.
+fn wanted<T: Copy>(
+    alloc: Global,
+    text: &str,
+    value: Value,
+    read: Option<T>,
+) -> Result<T, OptionFault> {
+    match read {
+        Some(value) => Ok(value),
+        None => Err(refused(alloc, text, value)),
     }
-    Ok(paths)
 }
 
 fn request_of(
@@ -147,51 +152,39 @@ fn request_of(
 ) -> Result<Request, OptionFault> {
     let (filter, form) = (filter_of(alloc, asked)?, form_of(asked));
     match (command, filter.code, filter.serial, filter.batch) {
-        (CHECK, ..) => lookup_of(alloc, asked),
         ("list", ..) => Ok(Request::List(filter, form)),
         ("count", ..) => Ok(Request::Count(filter, by_of(alloc, asked)?, form)),
         ("pack", Some(code), Some(serial), _) => Ok(Request::Story(Pack { code, serial }, form)),
         ("packs", Some(code), _, Some(batch)) => Ok(Request::Packs(code, batch, form)),
-        ("report", ..) => Ok(reports_of(form)),
-        _ => Err(unreadable(alloc)),
+        ("report", ..) => Ok(Request::Reports(form)),
+        _ => lookup_of(alloc, asked),
     }
 }
 
-fn reports_of(form: Form) -> Request {
-    match form {
-        Form::Csv => Request::ReportRows,
-        _ => Request::Reports,
+fn lookup_of(alloc: Global, asked: &ArgMatches<'_>) -> Result<Request, OptionFault> {
+    if let Some(code) = asked.get_str("report") {
+        return Ok(Request::Report(read(alloc, code, CODE, ProductCode::read(code))?));
     }
-}
-
-fn lookup_of(alloc: Global, matches: &ArgMatches<'_>) -> Result<Request, OptionFault> {
-    if let Some(code) = matches.get_str("report") {
-        return Ok(Request::Report(code_of(alloc, code)?));
-    }
-    match matches.get_strs("audit") {
+    match asked.get_strs("audit") {
         Some([code, serial]) => Ok(Request::Audit(Pack {
-            code: code_of(alloc, code)?,
-            serial: serial_of(alloc, serial)?,
+            code: read(alloc, code, CODE, ProductCode::read(code))?,
+            serial: read(alloc, serial, SERIAL, Serial::read(serial))?,
         })),
         _ => Ok(Request::Summary),
     }
 }
 
-fn code_of(alloc: Global, text: &str) -> Result<ProductCode, OptionFault> {
-    match ProductCode::read(text) {
-        Ok(code) => Ok(code),
-        Err(fault) => Err(OptionFault::Refused(format!(in alloc;
-            "error: '{text}' is no product code: {fault}\n"
-        )?)),
-    }
-}
-
-fn serial_of(alloc: Global, text: &str) -> Result<Serial, OptionFault> {
-    match Serial::read(text) {
-        Ok(serial) => Ok(serial),
-        Err(fault) => Err(OptionFault::Refused(format!(in alloc;
-            "error: '{text}' is no serial number: {fault}\n"
-        )?)),
+/// The value that was read of a text, or the refusal of the text, with its fault.
+fn read<T: Copy, E: Display + Copy>(
+    alloc: Global,
+    text: &str,
+    value: Value,
+    read: Result<T, E>,
+) -> Result<T, OptionFault> {
+    let (_, wanted) = value;
+    match read {
+        Ok(value) => Ok(value),
+        Err(fault) => Err(refusal(format!(in alloc; "error: '{text}' is no {wanted}: {fault}\n"))),
     }
 }
 
@@ -207,11 +200,9 @@ fn form_of(asked: &ArgMatches<'_>) -> Form {
 /// The parts that the options name, by which entries are counted.
 fn by_of(alloc: Global, asked: &ArgMatches<'_>) -> Result<Vec<By>, OptionFault> {
     let mut parts = Vec::new(alloc);
-    for word in asked.get_str("by").unwrap_or("").split(',') {
-        match By::named(word) {
-            Some(by) => parts.push(by).map_err(|_| AllocError)?,
-            None => return Err(refused(alloc, word, BY)),
-        }
+    for word in text_of(asked, "by").split(',') {
+        let part = wanted(alloc, word, BY, By::named(word))?;
+        parts.push(part).map_err(|_| AllocError)?;
     }
     Ok(parts)
 }
@@ -254,12 +245,4 @@ fn takes(alloc: Global, filter: &mut Filter, name: &str, text: &str) -> Result<b
 fn put<T: Copy>(place: &mut Option<T>, read: Option<T>) -> bool {
     *place = read;
     read.is_some()
-}
-
-/// The fault of a value that the parser took and that is not what it has to be. No command line has one.
-fn unreadable(alloc: Global) -> OptionFault {
-    match String::from_str(alloc, "error: an option could not be read\n") {
-        Ok(text) => OptionFault::Refused(text),
-        Err(AllocError) => OptionFault::Memory,
-    }
 }

@@ -9,16 +9,16 @@ use nmvs_shard::HashKey;
 use nmvs_stream::Device;
 use std::alloc::Global;
 use std::fs::{self, File};
-use std::io::{self, ErrorKind, Read};
+use std::io::{self, Read};
 use std::rt::HostRuntime;
 
 /// The fault of a page that is not written. The file of its name stays as it was, if there was one.
-#[derive(Drop)]
+#[derive(Clone, Copy)]
 pub(crate) enum PageFault {
     /// The inspection of the export failed.
     Inspect(InspectFault),
     /// The file cannot be written.
-    File,
+    Unwritten,
     /// The file is one of the exports.
     Export,
     /// The file is there, and is no page.
@@ -38,23 +38,20 @@ pub(crate) fn write_page(
     rt: &HostRuntime,
     alloc: Global,
     key: HashKey,
-    inputs: &mut Inputs,
+    inputs: &mut Inputs<'_>,
     path: &str,
     reads: u64,
 ) -> Result<(), PageFault> {
-    let heading = inputs.heading(alloc).or(Err(MEMORY))?;
+    let asked = Request::Page(inputs.heading(alloc).or(Err(MEMORY))?);
     let part = format!(in alloc; "{path}.part").or(Err(MEMORY))?;
-    if is_export(rt, path, inputs) {
-        return Err(PageFault::Export);
+    if let Some(fault) = fault_of(rt, path, inputs) {
+        return Err(fault);
     }
-    if !is_free(rt, path) {
-        return Err(PageFault::NoPage);
-    }
-    let file = create(rt, path, &part).or(Err(PageFault::File))?;
-    let asked = Request::Page(heading);
-    let (mut source, mut sink) = (Device::new(inputs), Device::new(file));
-    let written = match inspect(alloc, key, &mut source, &mut sink, &asked, reads) {
-        Ok(_) => fs::rename(rt, &part, path).or(Err(PageFault::File)),
+    // A page that was cut off left it there.
+    let _ = fs::remove_file(rt, &part);
+    let file = File::create_new(rt, &part).or(Err(PageFault::Unwritten))?;
+    let written = match inspect_into(alloc, key, inputs, file, &asked, reads) {
+        Ok(_) => fs::rename(rt, &part, path).or(Err(PageFault::Unwritten)),
         Err(fault) => Err(PageFault::Inspect(fault)),
     };
     if written.is_err() {
@@ -63,19 +60,26 @@ pub(crate) fn write_page(
     written
 }
 
-/// Whether the file of this path is one of the exports.
-fn is_export(rt: &HostRuntime, path: &str, inputs: &Inputs) -> bool {
-    match fs::metadata(rt, path) {
-        Ok(found) => inputs.have(rt, &found),
-        Err(_) => false,
-    }
+fn inspect_into(
+    alloc: Global,
+    key: HashKey,
+    inputs: &mut Inputs<'_>,
+    file: File,
+    asked: &Request,
+    reads: u64,
+) -> Result<Option<usize>, InspectFault> {
+    let (mut source, mut sink) = (Device::new(inputs), Device::new(file));
+    inspect(alloc, key, &mut source, &mut sink, asked, reads)
 }
 
-/// Whether a page may have this path: no file has it, or an earlier page. What is no file is refused when it is written.
-fn is_free(rt: &HostRuntime, path: &str) -> bool {
+/// The fault of the file of this path, if a page may not take its place.
+fn fault_of(rt: &HostRuntime, path: &str, inputs: &Inputs<'_>) -> Option<PageFault> {
     match fs::metadata(rt, path) {
-        Ok(found) if found.is_file() => is_page(rt, path).unwrap_or(false),
-        _ => true,
+        Err(_) => None,
+        Ok(found) if inputs.have(rt, &found) => Some(PageFault::Export),
+        Ok(found) if !found.is_file() => Some(PageFault::Unwritten),
+        Ok(_) if is_page(rt, path).unwrap_or(false) => None,
+        Ok(_) => Some(PageFault::NoPage),
     }
 }
 
@@ -84,15 +88,4 @@ fn is_page(rt: &HostRuntime, path: &str) -> io::Result<bool> {
     let mut begin = [0; PAGE_HEAD.len()];
     fs::open(rt, path)?.read_exact(&mut begin)?;
     Ok(begin.as_slice() == PAGE_HEAD.as_bytes())
-}
-
-/// A new file next to the one of this path, which is a file or nothing. What a page that was cut off left there goes first.
-fn create(rt: &HostRuntime, path: &str, part: &str) -> io::Result<File> {
-    match fs::metadata(rt, path) {
-        Ok(found) if !found.is_file() => Err(io::Error::from(ErrorKind::InvalidInput)),
-        _ => {
-            let _ = fs::remove_file(rt, part);
-            File::create_new(rt, part)
-        }
-    }
 }

@@ -9,9 +9,7 @@ pub(crate) enum Request {
     /// The report of a product code.
     Report(ProductCode),
     /// The reports of all product codes.
-    Reports,
-    /// The same as rows of CSV.
-    ReportRows,
+    Reports(Form),
     /// The lines about a pack.
     Audit(Pack),
     /// The entries that the filter takes.

@@ -105,7 +105,11 @@ impl Rows {
     {
         self.count += 1;
         self.all_read = self.all_read && reading.is_ok();
-        append_row(alloc, &mut self.block, self.count, reading)
+        let number = format!(in alloc; "{}", self.count)?;
+        match reading {
+            Ok(pack) => append_pack(alloc, &mut self.block, &number, pack),
+            Err(fault) => append_fault(alloc, &mut self.block, &number, *fault),
+        }
     }
 }
 
@@ -186,22 +190,6 @@ fn read_line(line: &[u8], nation: Option<National>) -> Result<Elements, LineFaul
     match read_scan(line, nation) {
         Ok(pack) => Ok(pack),
         Err(fault) => Err(LineFault::Scan(fault)),
-    }
-}
-
-/// Puts the row of a line at the end of a block.
-fn append_row(
-    alloc: Global,
-    block: &mut Vec<u8>,
-    number: u64,
-    reading: &Result<Elements, LineFault>,
-) -> Result<(), AllocError>
-    ensures { OnOk result (block.new.items ≡ block.old.items ++ scans.row number reading.now) }
-{
-    let number = format!(in alloc; "{number}")?;
-    match reading {
-        Ok(pack) => append_pack(alloc, block, &number, pack),
-        Err(fault) => append_fault(alloc, block, &number, *fault),
     }
 }
 

@@ -6,6 +6,12 @@ use crate::inspect_fault::InspectFault;
 use nmvs_reader::Objection;
 use nmvs_record::Finding;
 
+/// The status if an export is bad, as by `status_of`.
+pub(crate) const BAD: u8 = 1;
+
+/// The status if nothing is known of the input, or not all of the answer was written.
+pub(crate) const TROUBLE: u8 = 2;
+
 /// The status of an answer: 0 if the new export goes on, or all scans are read, and else 1.
 pub(crate) fn status_of_answer(holds: bool) -> u8
     ensures { result ≡ statuses.status_of_answer holds }
