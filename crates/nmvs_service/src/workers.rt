@@ -23,7 +23,7 @@ use std::ops::Range;
 use std::rt::{Clock, Files};
 use std::sync::{Mutex, Wait};
 use std::thread;
-use std::thread::Threads;
+use std::thread::{JoinHandle, Threads};
 use std::time::Duration;
 use std::vec::IntoIter;
 
@@ -56,7 +56,7 @@ fn bytes_of(mebibytes: u64) -> usize
     mebibytes.saturating_mul(1_048_576) as usize
 }
 
-/// The clerks that no worker has, with their pollers and numbers. They lie outside the threads' scope, whose early ends need not
+/// The clerks that no worker has, with their pollers and numbers. They lie outside the threads' scope, whose early end needs not
 /// give them up.
 type FreeClerks<'r, J, H> = Mutex<
     Zip<Zip<IntoIter<Clerk<'r, J, H>, &'r Global>, IntoIter<Poller>>, Range<usize>>,
@@ -143,10 +143,13 @@ fn serve_by_desk<'r, R: Wait + Clock + Log, J: Naming, H: Histories + LogName, D
 /// Accepts connections for the workers. If it cannot go on, it ends the service.
 fn accept<R: Wait + Log, J: Naming, H: Histories + LogName>(
     server: &Server<'_, '_, '_, R, J, H>,
-    acceptor: Poller,
+    acceptor: &Mutex<Option<Poller>>,
 ) {
     let config = server.config;
     let (run, alloc, http) = (&config.run, *config.run.alloc, config.http.as_ref());
+    let Some(acceptor) = acceptor.lock(run.rt).take() else {
+        return;
+    };
     if accept_loop(run.rt, alloc, &server.pool, server.listener, http, acceptor).is_err() {
         server.pool.stop(run.rt);
     }
@@ -213,48 +216,50 @@ fn serve_in_threads<
     let run = &server.config.run;
     let workers = clerks.len();
     let free = Mutex::new(clerks.into_iter().zip(pollers).zip(0..workers));
-    let clerks = &free;
+    let acceptor = Mutex::new(Some(acceptor));
+    let (clerks, acceptor) = (&free, &acceptor);
     thread::scope(thread::scope_env(), run.rt, |scope| {
         let mut ready = server.ready.lock(run.rt);
-        let Ok(mut working) = Vec::with_capacity(*run.alloc, workers) else {
-            return Err(AllocError);
-        };
-        let mut begun = Ok(());
+        let mut working = Vec::new(*run.alloc);
+        let mut begun = true;
         for _ in 0..workers {
             begun = match scope.spawn(move || work(server, clerks)) {
-                Ok(worker) => working.push(worker).or(Err(AllocError)),
-                Err(_) => Err(AllocError),
+                Ok(worker) => working.push(worker).is_ok(),
+                Err(_) => false,
             };
-            if begun.is_err() {
+            if !begun {
                 break;
             }
         }
-        if begun.is_err() {
-            drop(working);
-            return Err(AllocError);
-        }
-        let Ok(accepting) = scope.spawn(move || accept(server, acceptor)) else {
-            drop(working);
-            return Err(AllocError);
-        };
-        let Ok(writing) = scope.spawn(move || write_log(server)) else {
-            server.pool.stop(run.rt);
-            drop((working, accepting));
-            return Err(AllocError);
-        };
-        *ready = true;
+        begun = begun && scope.spawn(move || accept(server, acceptor)).is_ok();
+        begun = begun && scope.spawn(move || write_log(server)).is_ok();
+        *ready = begun;
         drop(ready);
-        take_commands(running, registrar, console);
-        for worker in working {
-            if let Some(clerk) = worker.join(run.rt) {
-                let _room_was_made = back.push(clerk);
-            }
+        if !begun {
+            server.pool.stop(run.rt);
+            drop(working);
+            return Err(AllocError);
         }
-        accepting.join(run.rt);
-        let confirmed = close_log(server, back);
-        writing.join(run.rt);
-        Ok(confirmed)
+        take_commands(running, registrar, console);
+        join_all(run.rt, working, back);
+        Ok(close_log(server, back))
     })
+}
+
+/// The threads of the workers, each with the clerk that it gives back.
+type Working<'r, J, H> = Vec<JoinHandle<Option<Clerk<'r, J, H>>>>;
+
+/// Puts the clerks back once the workers have ended.
+fn join_all<'r, R: Threads, J: Naming, H: Histories + LogName>(
+    rt: &R,
+    workers: Working<'r, J, H>,
+    back: &mut Vec<Clerk<'r, J, H>, &'r Global>,
+) {
+    for worker in workers {
+        if let Some(clerk) = worker.join(rt) {
+            let _room_was_made = back.push(clerk);
+        }
+    }
 }
 
 /// Says that the workers serve, and carries out the operator's commands until these end.
