@@ -56,7 +56,7 @@ fn bytes_of(mebibytes: u64) -> usize
     mebibytes.saturating_mul(1_048_576) as usize
 }
 
-/// The clerks that no worker has, with their pollers and numbers. They lie outside the threads' scope, whose early end needs not
+/// The clerks that no worker has, with their pollers and numbers. They lie outside the threads' scope, whose early end need not
 /// give them up.
 type FreeClerks<'r, J, H> = Mutex<
     Zip<Zip<IntoIter<Clerk<'r, J, H>, &'r Global>, IntoIter<Poller>>, Range<usize>>,
