@@ -1,5 +1,5 @@
 -- No house is shown to a holder.
-use Rattle.std.proofs.Common.{◌≡◌, ◌↔◌, ◌∙◌, ◌++◌, ◌∷◌, ◌-◌, [], ℕ, List, Bool, true, false, Option, Some, None, ap, cond, drop, length, map, not, refl, subst, sym, take}
+use Rattle.std.proofs.Common.{◌≡◌, ◌↔◌, ◌∙◌, ◌++◌, ◌∷◌, ◌-◌, [], ℕ, List, Bool, true, false, Option, Some, None, ap, cond, drop, length, map, refl, subst, sym, take}
 use Rattle.std.specs.Prelude.{◌&&◌, ◌||◌, ◌==◌, codes, decimal, filter, find, nat_le}
 use Rattle.std.specs.List.{AllZip, flat_map, list_any, slice_get}
 use Rattle.std.specs.Option.{is_none, is_some, option_map, option_map_or}
@@ -44,7 +44,7 @@ use Rattle.nmvs_alerts.specs.declared.numbers.Counted.{Counted}
 use Rattle.nmvs_alerts.specs.declared.selection.AlertFilter.{AlertFilter}
 use Rattle.nmvs_alerts.specs.declared.selection.Wanted.{Wanted}
 use Rattle.nmvs_alerts.specs.declared.selection.Wanted.TheVariants as wants
-use Rattle.nmvs_alerts.specs.Alerts.{Investigated, ShownLine, alert_of, flagged_in, flagged_of, is_meant, is_shown, lines_of, places_about, raised, texts_on}
+use Rattle.nmvs_alerts.specs.Alerts.{Investigated, ShownLine, alert_of, flagged_in, flagged_of, is_meant, is_shown, lines_of, places_about, raised}
 use Rattle.nmvs_alerts.specs.Answers.{acts_text, alert_named, is_it, last_moment, may_ask, number_of, of_code, one_text, range_text, ranged, reader_text, stands_text, story_of, story_text, user_text}
 use Rattle.nmvs_alerts.specs.Json.{joined, led, named, number_member, text_member}
 use Rattle.nmvs_alerts.specs.Laws.{NoHouseIsShown, one_of, range_of}

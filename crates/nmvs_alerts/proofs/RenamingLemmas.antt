@@ -245,24 +245,26 @@ after-same r k (Confirmed i) Reopen Owner u = refl
 after-same r k Open Reopen d u = refl
 after-same r k (Taken by) Reopen d u = refl
 
+kept-same : (r : Renaming) (o : Option Case) (s : Case) → unwrap_or (option_map (other_case r) o) (other_case r s) ≡ other_case r (unwrap_or o s)
+kept-same r None s = refl
+kept-same r (Some t) s = refl
+
 on-same : (r : Renaming) → Keeps r → (l : CaseLine) (s : Case) (c : ProductCode) (n : ℕ) (h : Option Hint)
-    → on (renamed_line r l) (other_case r s) c n h ≡ option_map (other_case r) (on l s c n h)
+    → on (renamed_line r l) (other_case r s) c n h ≡ other_case r (on l s c n h)
 on-same r k l s c n h = by (has l.range c n h) l.author
   where
-    by : (b : Bool) (a : Author) → cond b (after (other_case r s) l.act (author_reader (renamed_author r a)) (author_user (renamed_author r a))) (Some (other_case r s))
-        ≡ option_map (other_case r) (cond b (after s l.act (author_reader a) (author_user a)) (Some s))
+    by : (b : Bool) (a : Author)
+        → cond b (unwrap_or (after (other_case r s) l.act (author_reader (renamed_author r a)) (author_user (renamed_author r a))) (other_case r s)) (other_case r s)
+        ≡ other_case r (cond b (unwrap_or (after s l.act (author_reader a) (author_user a)) s) s)
     by false a = refl
-    by true (author.Officer u) = after-same r k s l.act Officer u
-    by true (author.User u a) = after-same r k s l.act _ u
+    by true (author.Officer u) =
+        ap (λ (o : Option Case). unwrap_or o (other_case r s)) (after-same r k s l.act Officer u) ∙ kept-same r (after s l.act Officer u) s
+    by true (author.User u a) =
+        ap (λ (o : Option Case). unwrap_or o (other_case r s)) (after-same r k s l.act (author_reader (author.User u a)) u)
+        ∙ kept-same r (after s l.act (author_reader (author.User u a)) u) s
 
 acted-same : (r : Renaming) → Keeps r → (l : CaseLine) (a : FlaggedAlert) → acted (renamed_line r l) (other_alert r a) ≡ other_case r (acted l a)
-acted-same r k l a =
-    ap (λ (o : Option Case). unwrap_or o (other_case r a.case)) (on-same r k l a.case a.name.code a.name.number a.hint)
-    ∙ by (on l a.case a.name.code a.name.number a.hint)
-  where
-    by : (o : Option Case) → unwrap_or (option_map (other_case r) o) (other_case r a.case) ≡ other_case r (unwrap_or o a.case)
-    by None = refl
-    by (Some s) = refl
+acted-same r k l a = on-same r k l a.case a.name.code a.name.number a.hint
 
 -- ---- alerts
 

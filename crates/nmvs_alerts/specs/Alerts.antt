@@ -1,6 +1,6 @@
 -- The flagged alerts of a trail (Article 36(b)), and the case of each by the lines of a list of cases (own, for Article 37(d)).
 use Rattle.std.specs.Prelude.{ℕ, ◌≡◌, ◌≤◌, ◌==◌, ◌&&◌, Bool, true, false, List, [], ◌∷◌, ◌++◌, filter, length, map, string_bytes, take, Option, Some, None, if◌then◌else◌}
-use Rattle.std.specs.List.{All, AllByRecursion, list_any, slice_get}
+use Rattle.std.specs.List.{AllByRecursion, list_any, slice_get}
 use Rattle.std.specs.Option.{option_map_or, option_and_then}
 use Rattle.nmvs_identifier.specs.declared.pack.Pack.{Pack}
 use Rattle.nmvs_rules.specs.declared.cause.Cause.{Cause}

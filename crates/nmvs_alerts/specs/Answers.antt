@@ -1,5 +1,5 @@
 -- What readers get, as JSON (own, for Articles 38 and 39).
-use Rattle.std.specs.Prelude.{ℕ, ◌-◌, Bool, true, false, not, ◌&&◌, ◌||◌, List, [], ◌∷◌, ◌++◌, Option, Some, None, codes, decimal, filter, find, length, if◌then◌else◌}
+use Rattle.std.specs.Prelude.{ℕ, ◌-◌, Bool, true, false, not, ◌&&◌, ◌||◌, List, [], ◌++◌, Option, Some, None, codes, decimal, filter, find, length, if◌then◌else◌}
 use Rattle.std.specs.List.{flat_map, slice_get}
 use Rattle.std.specs.Option.{is_none, option_map_or}
 use Rattle.nmvs_identifier.specs.Name.{Name}

@@ -1,5 +1,5 @@
 use Rattle.std.proofs.Common.{List, arith, subst}
-use Rattle.std.specs.List.{AllZip, flat_map}
+use Rattle.std.specs.List.{AllZip}
 use Rattle.nmvs_alerts.specs.declared.alert.FlaggedAlert.{FlaggedAlert}
 use Rattle.nmvs_alerts.specs.Numbers.{IsCounted, seen}
 use Rattle.nmvs_alerts.proofs.JsonLemmas.{piece-more}
