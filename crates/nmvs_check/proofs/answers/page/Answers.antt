@@ -22,6 +22,6 @@ returns g c =
     on_ok_weaker c.write_page.result
     (λ w.
     let under = subst (λ (h : List ℕ). shows c.shard-shard.result.now c.as_slice.result.now h) c.deref.ensures w in
-    let named = subst (λ (cs : List ProductCode). shows c.shard-shard.result.now cs head) (c.as_slice.ensures ∙ c.in_ok-codes.ensures) under in
+    let named = subst (λ (cs : List ProductCode). shows c.shard-shard.result.now cs head) (c.as_slice.ensures.keys ∙ c.in_ok-codes.ensures) under in
     (head, c.in_ok-head.ensures, subst (λ (t : List Entry). shows t (codes_named t) head) c.shard-shard.ensures named))
     c.write_page.ensures
