@@ -94,23 +94,23 @@ impl Replica {
         response: &mut Response,
     ) -> Result<(), AllocError> {
         match self.answer_author(served, request) {
-            Ok((kind, bytes)) => put(response, HeaderValue::from_static(kind), &bytes),
+            Ok((form, bytes)) => put(response, type_in(form), &bytes),
             Err(refusal) => refuse(response, refusal),
         }
     }
 
-    /// The answer to an author's request, with its type.
+    /// The answer to an author's request, with the form that it asks for.
     fn answer_author(
         &mut self,
         served: Served,
         request: &Request<Bytes>,
-    ) -> Result<(&'static str, Vec<u8>), Refusal> {
+    ) -> Result<(Option<Form>, Vec<u8>), Refusal> {
         let author = self.author().ok_or(Refusal::Nobody)?;
         if is_foreign(request) {
             return Err(Refusal::Site);
         }
         match served {
-            Served::Cases => Ok((JSON_TYPE, self.answer_act(&author, request)?)),
+            Served::Cases => Ok((None, self.answer_act(&author, request)?)),
             _ => self.look(served, &author, request),
         }
     }
@@ -121,7 +121,7 @@ impl Replica {
         served: Served,
         author: &Author,
         request: &Request<Bytes>,
-    ) -> Result<(&'static str, Vec<u8>), Refusal> {
+    ) -> Result<(Option<Form>, Vec<u8>), Refusal> {
         let query = request.uri().query().unwrap_or("");
         let parameters = read_parameters(self.alloc, served, query)?;
         let alert = alert_text(request.uri().path());
@@ -129,7 +129,7 @@ impl Replica {
         if let Served::Alert | Served::Entries | Served::Pack | Served::Packs = served {
             self.note_look(author, path_of(request))?;
         }
-        Ok((type_in(parameters.form), bytes))
+        Ok((parameters.form, bytes))
     }
 
     /// The answer to an act.
@@ -179,10 +179,10 @@ fn is_foreign(request: &Request<Bytes>) -> bool {
 }
 
 /// The type of an answer in a form.
-fn type_in(form: Option<Form>) -> &'static str {
+fn type_in(form: Option<Form>) -> HeaderValue {
     match form {
-        Some(Form::Csv) => CSV_TYPE,
-        _ => JSON_TYPE,
+        Some(Form::Csv) => HeaderValue::from_static(CSV_TYPE),
+        _ => HeaderValue::from_static(JSON_TYPE),
     }
 }
 
